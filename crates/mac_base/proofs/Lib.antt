@@ -1,0 +1,4 @@
+pub mod Choices
+pub mod FieldLemmas
+pub mod SpellingLemmas
+pub mod InputLemmas

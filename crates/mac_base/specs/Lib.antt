@@ -1,0 +1,4 @@
+pub mod Input
+pub mod Fields
+pub mod Spelling
+pub mod Laws
