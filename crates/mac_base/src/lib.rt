@@ -7,6 +7,7 @@ mod laws;
 mod leb;
 mod memory;
 mod paths;
+mod sections;
 mod steps;
 
 pub use bytes::Bytes;
@@ -14,4 +15,5 @@ pub use cursor::{Cursor, CursorFault};
 pub use laws::fields_are_exact;
 pub use memory::NoMemory;
 pub use paths::Paths;
+pub use sections::Sections;
 pub use steps::Steps;
