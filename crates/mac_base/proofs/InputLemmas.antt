@@ -55,6 +55,13 @@ bytes_at-takes n p q bytes is =
     let taken = between_taken p n (ltb-false (length (rest p)) n parts.0) in
     subst (λ (x : List ℕ × Input). Between p x.1 x.0) same taken
 
+pub bytes_at-long : (n : ℕ) (p q : Input) (bytes : List ℕ) → bytes_at n p ≡ Ok (bytes, q) → length bytes ≡ n
+bytes_at-long n p q bytes is =
+    let parts = guarded_not (ltb (length (rest p)) n) (Ok (take n (rest p), ahead p n)) (bytes, q) (Cut p.at) is in
+    let same = same_ok {E = CursorFault} (take n (rest p), ahead p n) (bytes, q) parts.1 in
+    let front : take n (rest p) ≡ bytes = ap (λ (x : List ℕ × Input). x.0) same in
+    ap length (sym front) ∙ length-take-le n (rest p) (ltb-false (length (rest p)) n parts.0)
+
 pub bytes_at-again : (p q : Input) (bytes : List ℕ) (n : ℕ) → Between p q bytes → length bytes ≡ n → bytes_at n p ≡ Ok (bytes, q)
 bytes_at-again p q bytes n between long =
     let front : take n (rest p) ≡ bytes = rw between.front (take_at bytes (rest q) n long) in

@@ -2,3 +2,4 @@ pub mod Choices
 pub mod FieldLemmas
 pub mod SpellingLemmas
 pub mod InputLemmas
+pub mod ValueLemmas
