@@ -36,7 +36,7 @@ counted_takes width p q v is =
     let block = bytes_takes count.0.0 count.0.1 q v count.2 in
     (found.0 ++ block.0, between_both p count.0.1 q found.0 block.0 found.1 block.1, (found.0, block.0, refl {a = found.0 ++ block.0}, subst (IsFixed width found.0) (sym block.2.0) found.2, block.2.1))
 
-offset_at-is : (wide : Bool) (p : Input) → offset_at wide p ≡ number_at (offset_width wide) p
+pub offset_at-is : (wide : Bool) (p : Input) → offset_at wide p ≡ number_at (offset_width wide) p
 offset_at-is true p = refl
 offset_at-is false p = refl
 

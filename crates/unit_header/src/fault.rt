@@ -1,0 +1,69 @@
+ghost use Rattle.std.specs.Prelude.{◌≡◌};
+ghost use Rattle.unit_header.specs.Faults.{unit_fault};
+
+use mac_base::CursorFault;
+use thiserror::Error;
+
+/// What is wrong with a macro unit, or with what it refers to.
+#[derive(Clone, Copy, Debug, PartialEq, Eq, Error)]
+pub enum UnitKind {
+    /// The version is not 5.
+    #[error("the version is not 5")]
+    Version,
+    /// Another flag than the three of DWARF 5 is set.
+    #[error("unknown flags")]
+    Flags,
+    /// The bytes end in the midst of a field.
+    #[error("a field is cut off")]
+    Cut,
+    /// A LEB128 number doesn't fit 64 bits.
+    #[error("a number doesn't fit 64 bits")]
+    Leb,
+    /// No NUL ends a string.
+    #[error("no NUL ends a string")]
+    NoNul,
+    /// The operand table lists the opcode 0, an opcode twice, or a standard opcode with other forms.
+    #[error("an operand table that lists an opcode wrongly")]
+    OperandTable,
+    /// The operand table names a form that no macro entry has.
+    #[error("an unknown form")]
+    Form,
+    /// The opcode is neither standard nor listed in the operand table.
+    #[error("an unknown opcode")]
+    Opcode,
+    /// An offset of a string names none.
+    #[error("no string stands at an offset")]
+    StrRange,
+    /// A unit's offset is not inside the section.
+    #[error("no unit stands at an offset")]
+    ImportRange,
+}
+
+/// A fault of a macro unit, and the byte that it names, counted from the section's first.
+#[derive(Clone, Copy, Debug, PartialEq, Eq, Error)]
+#[error("{what} at {at:#x}")]
+pub struct UnitFault {
+    pub at: u64,
+    pub what: UnitKind,
+}
+
+impl From<CursorFault> for UnitFault {
+    ghost from_gives = { λ fault found. found ≡ unit_fault fault };
+
+    fn from(fault: CursorFault) -> UnitFault {
+        match fault {
+            CursorFault::Cut { at } => UnitFault {
+                at,
+                what: UnitKind::Cut,
+            },
+            CursorFault::Leb { at } => UnitFault {
+                at,
+                what: UnitKind::Leb,
+            },
+            CursorFault::NoNul { at } => UnitFault {
+                at,
+                what: UnitKind::NoNul,
+            },
+        }
+    }
+}
