@@ -1,17 +1,19 @@
 -- Entries one after another: a unit has one list of entries, and what isn't read isn't spelled.
 use Rattle.std.proofs.Common.{◌≡◌, ℕ, ◌+◌, false, eqb, List, [], ◌∷◌, ◌++◌, length, take, Option, Some, None, Ok, Err, refl, ap, subst, ◌∙◌, sym, arith, length-append, append_assoc}
-use borrow.Author.Tests.{eqb-true}
 use Rattle.std.proofs.lemmas.List.{drop_at, take_at, append_cancel_left, append-nil}
 use Rattle.mac_base.specs.Input.{Input, rest, ahead}
-use Rattle.mac_base.specs.Fields.{number_at, little_endian}
 use Rattle.mac_base.specs.Spelling.{Between}
-use Rattle.mac_base.proofs.Choices.{bind_ok, same_ok, same_some, ok_is_no_err, guarded}
-use Rattle.mac_base.proofs.InputLemmas.{between_both, between_front, number_at-takes, number_at-again, byte_at-takes, byte_at-again}
-use Rattle.macro_opcodes.specs.declared.fault.UnitFault.{UnitFault}
-use Rattle.macro_opcodes.specs.Entry.{Header, Entry}
-use Rattle.macro_opcodes.specs.Spells.{IsEntry, AreEntries, IsHeader, Spells}
-use Rattle.macro_opcodes.specs.Reading.{field, entry_at, header_at, flags_at}
-use Rattle.macro_opcodes.proofs.EntryLemmas.{field_ok, no_forms_at_zero, entry_again, close_takes, close_again}
+use Rattle.mac_base.proofs.Choices.{same_ok, same_some, ok_is_no_err}
+use Rattle.mac_base.proofs.InputLemmas.{between_front}
+use Rattle.unit_header.specs.declared.fault.UnitFault.{UnitFault}
+use Rattle.unit_header.specs.Header.{Header}
+use Rattle.unit_header.specs.Spelling.{IsHeader}
+use Rattle.unit_header.specs.Reading.{header_at}
+use Rattle.unit_header.proofs.HeaderLemmas.{header_again, one_header}
+use Rattle.macro_opcodes.specs.Entry.{Entry}
+use Rattle.macro_opcodes.specs.Spells.{IsEntry, AreEntries, Spells}
+use Rattle.macro_opcodes.specs.Reading.{entry_at}
+use Rattle.macro_opcodes.proofs.EntryLemmas.{no_forms_at_zero, entry_again, close_takes, close_again}
 
 moved : (h : Header) (bytes : List ℕ) (e : Entry) (at : ℕ) → IsEntry h bytes e → IsEntry h bytes (record e { at = at })
 moved h [] e at is = is
@@ -90,46 +92,6 @@ next_of h at (e ∷ es) (f ∷ fs) xs ys r after are also same =
     subst (λ (zs : List ℕ). Next h (e ∷ es) (f ∷ fs) xs zs r after) (ap (λ (zs : List ℕ). zs ++ also.1) one.0 ∙ sym also.2)
     (subst (λ (zs : List ℕ). Next h (e ∷ es) (f ∷ fs) zs (a ++ also.1) r after) (sym are.2) both)
 
-two_bytes : (bytes : List ℕ) → length bytes ≡ 2 → 5 ≡ little_endian bytes → bytes ≡ 5 ∷ 0 ∷ []
-two_bytes [] long is = absurd (omega arith)
-two_bytes (a ∷ []) long is = absurd (omega arith)
-two_bytes (a ∷ b ∷ []) long is =
-    let high : b ≡ 0 = omega arith in
-    let low : a ≡ 5 = omega arith in
-    λ i. low i ∷ high i ∷ []
-two_bytes (a ∷ b ∷ c ∷ bytes) long is = absurd (omega arith)
-
-flags_takes : (p q : Input) (h : Header) → flags_at p ≡ Ok (h, q) → Between p q (0 ∷ []) × (h ≡ record { version = 5; wide = false; line = None })
-flags_takes p q h is =
-    let read = bind_ok (field (number_at 1 p)) _ (h, q) is in
-    let byte = byte_at-takes p read.0.1 read.0.0 (field_ok (number_at 1 p) read.0 read.1) in
-    let none = guarded (eqb read.0.0 0) _ (h, q) _ read.2 in
-    let same = same_ok (record { version = 5; wide = false; line = None }, read.0.1) (h, q) none.1 in (
-      subst (λ (z : Input). Between p z (0 ∷ [])) (ap (λ (z : Header × Input). z.1) same) (subst (λ (b : ℕ). Between p read.0.1 (b ∷ [])) (eqb-true read.0.0 0 none.0) byte),
-      sym (ap (λ (z : Header × Input). z.0) same),
-    )
-
-pub header_takes : (p q : Input) (h : Header) → header_at p ≡ Ok (h, q) → (bytes : List ℕ) × Between p q bytes × IsHeader bytes h
-unfolding header_at
-header_takes p q h is =
-    let read = bind_ok (field (number_at 2 p)) _ (h, q) is in
-    let five = guarded (eqb read.0.0 5) (flags_at read.0.1) (h, q) _ read.2 in
-    let number = number_at-takes 2 p read.0.1 read.0.0 (field_ok (number_at 2 p) read.0 read.1) in
-    let bytes = two_bytes number.0 number.2.long (sym (eqb-true read.0.0 5 five.0) ∙ number.2.number) in
-    let flags = flags_takes read.0.1 q h five.1 in
-    (number.0 ++ 0 ∷ [], between_both p read.0.1 q number.0 (0 ∷ []) number.1 flags.0, record { spelled = ap (λ xs. xs ++ 0 ∷ []) bytes; says = flags.1 })
-
-pub header_again : (p q : Input) (bytes : List ℕ) (h : Header) → Between p q bytes → IsHeader bytes h → header_at p ≡ Ok (h, q)
-unfolding header_at
-header_again p q bytes h between is =
-    let stands : rest p ≡ 5 ∷ 0 ∷ (0 ∷ rest q) = between.front ∙ ap (λ xs. xs ++ rest q) is.spelled in
-    let first = between_front p (5 ∷ 0 ∷ []) (0 ∷ rest q) stands in
-    let left : rest (ahead p 2) ≡ 0 ∷ rest q = append_cancel_left (5 ∷ 0 ∷ []) _ _ (sym first.front ∙ stands) in
-    let far : p.at + 2 + 1 ≡ p.at + length bytes = omega (arith, ap length is.spelled) in
-    let place : ahead (ahead p 2) 1 ≡ q = ap (λ n. record { bytes = p.bytes; at = n }) far ∙ sym between.place in
-    let second = between_front (ahead p 2) (0 ∷ []) (rest q) left in
-    rw (number_at-again 2 p (ahead p 2) (5 ∷ 0 ∷ []) 5 first (record { long = refl; number = refl }), byte_at-again (ahead p 2) (ahead (ahead p 2) 1) 0 second, place, is.says) refl
-
 -- the unit that was read up to its closing 0
 pub unit_spelled : (section : List ℕ) (offset : ℕ) (h : Header) (p q r : Input) (header xs : List ℕ) (es : List Entry) → Between (record { bytes = section; at = offset }) p header → IsHeader header h → Between p q xs → AreEntries h p.at xs es → entry_at h q ≡ Ok (None, r) → Spells section offset h es r.at
 unit_spelled section offset h p q r header xs es first is second are ended =
@@ -147,20 +109,16 @@ unit_spelled section offset h p q r header xs es first is second are ended =
       ends = omega (arith, place, next, end);
     }
 
-same_header : (header header' : List ℕ) (h h' : Header) → IsHeader header h → IsHeader header' h' → (header' ≡ header) × (h' ≡ h)
-same_header header header' h h' is also = (also.spelled ∙ sym is.spelled, also.says ∙ sym is.says)
-
 -- entries that were read, beside any unit at the same offset
 beside : (section : List ℕ) (offset : ℕ) (h h' : Header) (p q : Input) (header xs : List ℕ) (es es' : List Entry) (end : ℕ) → Between (record { bytes = section; at = offset }) p header → IsHeader header h → Between p q xs → AreEntries h p.at xs es → (s : Spells section offset h' es' end) → Next h es es' xs s.body (rest q) s.after
 beside section offset h h' p q header xs es es' end first is second are s =
-    let same = same_header header s.header h h' is s.is_header in
+    let whole : header ++ (xs ++ rest q) ≡ s.header ++ (s.body ++ 0 ∷ s.after) =
+    ap (λ ys. header ++ ys) (sym second.front) ∙ sym first.front ∙ s.stands ∙ append_assoc s.header s.body (0 ∷ s.after) in
+    let same = one_header header s.header (xs ++ rest q) (s.body ++ 0 ∷ s.after) h h' is s.is_header whole in
     let place : p.at ≡ offset + length header = ap (λ (z : Input). z.at) first.place in
     let there : AreEntries h (offset + length header) s.body es' =
-    subst (λ (z : Header). AreEntries z (offset + length header) s.body es') same.1 (subst (λ (zs : List ℕ). AreEntries h' (offset + length zs) s.body es') same.0 s.are_entries) in
-    let lined : xs ++ rest q ≡ s.body ++ 0 ∷ s.after =
-    append_cancel_left header _ _ (
-    ap (λ ys. header ++ ys) (sym second.front) ∙ sym first.front ∙ s.stands ∙ ap (λ (zs : List ℕ). zs ++ s.body ++ 0 ∷ s.after) same.0 ∙ append_assoc header s.body (0 ∷ s.after)
-    ) in
+    subst (λ (z : Header). AreEntries z (offset + length header) s.body es') (sym same.1) (subst (λ (zs : List ℕ). AreEntries h' (offset + length zs) s.body es') (sym same.0) s.are_entries) in
+    let lined : xs ++ rest q ≡ s.body ++ 0 ∷ s.after = append_cancel_left header _ _ (whole ∙ ap (λ (zs : List ℕ). zs ++ (s.body ++ 0 ∷ s.after)) (sym same.0)) in
     next_of h (offset + length header) es es' xs s.body (rest q) s.after (subst (λ (n : ℕ). AreEntries h n xs es) place are) there lined
 
 no_next : (h : Header) (es es' : List Entry) (xs ys after : List ℕ) (q : Input) (fault : UnitFault) → entry_at h q ≡ Err fault → Next h es es' xs ys (rest q) after → ⊥
@@ -195,5 +153,5 @@ one_unit section offset h h' es es' end end' s t =
     let behind : rest (ahead p (length s.body)) ≡ 0 ∷ s.after = append_cancel_left s.body _ _ (sym second.front ∙ left) in
     let next = beside section offset h h' p (ahead p (length s.body)) s.header s.body es es' end' first s.is_header second s.are_entries t in
     let found = entries_of_next h es es' s.body t.body s.after t.after (subst (λ (zs : List ℕ). Next h es es' s.body t.body zs t.after) behind next) in
-    let headers = same_header s.header t.header h h' s.is_header t.is_header in
-    (sym headers.1, found.0, omega (arith, s.ends, t.ends, ap length found.1, ap length headers.0))
+    let headers = one_header s.header t.header _ _ h h' s.is_header t.is_header (sym (append_assoc s.header s.body (0 ∷ s.after)) ∙ sym s.stands ∙ t.stands ∙ append_assoc t.header t.body (0 ∷ t.after)) in
+    (headers.1, found.0, omega (arith, s.ends, t.ends, ap length found.1, ap length headers.0))

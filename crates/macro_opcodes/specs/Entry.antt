@@ -1,25 +1,29 @@
--- The header and the entries of a macro unit as values (DWARF 5, 6.3.1 and 6.3.2).
-use Rattle.std.specs.Prelude.{ℕ, List, Bool, Option}
-use Rattle.macro_opcodes.specs.declared.entry.Header.{Header as HeldHeader}
+-- The entries of a macro unit as values (DWARF 5, 6.3.2).
+use Rattle.std.specs.Prelude.{ℕ, List}
 use Rattle.macro_opcodes.specs.declared.entry.Operand.{Operand as HeldOperand}
-use Rattle.macro_opcodes.specs.declared.entry.Operand.TheVariants.{None as HeldNone, File as HeldFile, Text as HeldText}
+use Rattle.macro_opcodes.specs.declared.entry.Operand.TheVariants.{None as HeldNone, File as HeldFile, Text as HeldText, Str as HeldStr, Index as HeldIndex, Macro as HeldMacro, SupStr as HeldSupStr, SupMacro as HeldSupMacro, Other as HeldOther}
 use Rattle.macro_opcodes.specs.declared.entry.RawEntry.{RawEntry}
 
--- a header: the version, whether offsets have 8 bytes, and the offset of the line table, where there is one
-pub record Header : Type 0 where
-  pub version : ℕ
-  pub wide : Bool
-  pub line : Option ℕ
-
--- a header without where it lies in memory
-abbrev pub header_of : HeldHeader → Header
-header_of h = record { version = h.version; wide = h.wide; line = h.line }
-
--- what an entry has besides its line: nothing, the index of a file, or the text of a definition or a name
+-- what an entry has besides its line
 pub data Operand : Type 0 where
+  -- nothing
   None : Operand
+  -- the index of a file in the line table
   File : ℕ → Operand
+  -- a definition or a name
   Text : List ℕ → Operand
+  -- the offset of such a text in the string section
+  Str : ℕ → Operand
+  -- the index of such an offset in the section of string offsets
+  Index : ℕ → Operand
+  -- the offset of a unit
+  Macro : ℕ → Operand
+  -- the offset of a text in the supplementary file
+  SupStr : ℕ → Operand
+  -- the offset of a unit in the supplementary file
+  SupMacro : ℕ → Operand
+  -- values that the operand table lists
+  Other : Operand
 
 -- an entry: where its opcode stands, the opcode, the line (0 where the opcode has none) and the rest
 pub record Entry : Type 0 where
@@ -33,6 +37,12 @@ abbrev pub operand_of : HeldOperand → Operand
 operand_of HeldNone = None
 operand_of (HeldFile index) = File index
 operand_of (HeldText text) = Text text.now
+operand_of (HeldStr at) = Str at
+operand_of (HeldIndex index) = Index index
+operand_of (HeldMacro at) = Macro at
+operand_of (HeldSupStr at) = SupStr at
+operand_of (HeldSupMacro at) = SupMacro at
+operand_of HeldOther = Other
 
 -- an entry without where it lies in memory
 abbrev pub entry_of : RawEntry → Entry

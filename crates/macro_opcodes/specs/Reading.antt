@@ -1,51 +1,34 @@
--- What reading a macro unit gives at each place: the value and the place behind it, or the first fault with its byte.
-use Rattle.std.specs.Prelude.{ℕ, false, ◌==◌, if◌then◌else◌, List, [], ◌∷◌, Option, Some, None, Result, Ok, Err}
-use Rattle.mac_base.specs.declared.cursor.CursorFault.{CursorFault}
-use Rattle.mac_base.specs.declared.cursor.CursorFault.TheVariants.{Cut as CutField, Leb as LongNumber, NoNul as OpenString}
+-- What reading the entries of a macro unit gives at each place: the entry and the place behind it, or the first fault with its byte.
+use Rattle.std.specs.Prelude.{◌≡◌, ℕ, ◌==◌, if◌then◌else◌, List, [], ◌∷◌, Option, Some, None, Result, Ok, Err}
 use Rattle.mac_base.specs.Input.{Input, ◌>>=◌}
-use Rattle.mac_base.specs.Fields.{number_at, uleb_at, text_at}
-use Rattle.macro_opcodes.specs.declared.fault.UnitFault.{UnitFault}
-use Rattle.macro_opcodes.specs.declared.fault.UnitKind.TheVariants.{Version, Flags, Cut, Leb, NoNul, Opcode}
-use Rattle.macro_opcodes.specs.Entry.{Header, Operand, Entry}
-use Rattle.macro_opcodes.specs.Spells.{Form, Udata, String, Value, Number, Characters, forms_of, said_by}
+use Rattle.mac_base.specs.Fields.{number_at}
+use Rattle.mac_base.specs.Forms.{form_by_code, layout_by_form}
+use Rattle.mac_base.specs.Values.{Value, value_at}
+use Rattle.mac_base.specs.declared.form.Form.{Form}
+use Rattle.mac_base.specs.declared.value.Sizes.{Sizes}
+use Rattle.unit_header.specs.declared.fault.UnitFault.{UnitFault}
+use Rattle.unit_header.specs.declared.fault.UnitKind.TheVariants.{Form as UnknownForm, Opcode as UnknownOpcode}
+use Rattle.unit_header.specs.declared.opcode.Opcode.{Opcode}
+use Rattle.unit_header.specs.Faults.{field}
+use Rattle.unit_header.specs.Opcodes.{opcode_by_byte}
+use Rattle.unit_header.specs.Header.{Header, forms_of}
+use Rattle.macro_opcodes.specs.Entry.{Operand, Entry}
+use Rattle.macro_opcodes.specs.Spells.{sizes_of, said_by}
 
--- a fault of a field, as one of the unit
-abbrev pub unit_fault : CursorFault → UnitFault
-unit_fault (CutField at) = record { at = at; what = Cut }
-unit_fault (LongNumber at) = record { at = at; what = Leb }
-unit_fault (OpenString at) = record { at = at; what = NoNul }
+-- a value in a form, if it is one
+abbrev pub value_in : Sizes → Option Form → Input → Result (Value × Input) UnitFault
+value_in sizes None p = Err (record { at = p.at; what = UnknownForm })
+value_in sizes (Some form) p = field (value_at sizes (layout_by_form form) p)
 
--- a field of a unit
-abbrev pub field : {A : Type 0} → Result A CursorFault → Result A UnitFault
-field (Ok x) = Ok x
-field (Err fault) = Err (unit_fault fault)
+-- values in the forms of these codes, one after another
+abbrev pub values_at : Sizes → List ℕ → Input → Result (List Value × Input) UnitFault
+values_at sizes [] p = Ok ([], p)
+values_at sizes (code ∷ codes) p = value_in sizes (form_by_code code) p >>= λ value. values_at sizes codes value.1 >>= λ values. Ok (value.0 ∷ values.0, values.1)
 
--- a value in this form
-abbrev pub value_at : Header → Form → Input → Result (Value × Input) UnitFault
-value_at h Udata p = field (uleb_at p) >>= λ n. Ok (Number n.0, n.1)
-value_at h String p = field (text_at p) >>= λ text. Ok (Characters text.0, text.1)
-
--- values in these forms, one after another
-abbrev pub values_at : Header → List Form → Input → Result (List Value × Input) UnitFault
-values_at h [] p = Ok ([], p)
-values_at h (form ∷ forms) p = value_at h form p >>= λ value. values_at h forms value.1 >>= λ values. Ok (value.0 ∷ values.0, values.1)
-
--- the flags (1 byte), of which none may be set
-abbrev pub flags_at : Input → Result (Header × Input) UnitFault
-flags_at p =
-    field (number_at 1 p) >>= λ flags.
-    if flags.0 == 0 then Ok (record { version = 5; wide = false; line = None }, flags.1) else Err (record { at = p.at; what = Flags })
-
--- the header: the version (2 bytes), which is 5, and then the flags
-unfoldable pub header_at : Input → Result (Header × Input) UnitFault
-header_at p =
-    field (number_at 2 p) >>= λ version.
-    if version.0 == 5 then flags_at version.1 else Err (record { at = p.at; what = Version })
-
--- the line and the rest of an entry whose opcode stands at `at`, by the forms of the opcode
-abbrev pub said_at : Header → ℕ → ℕ → Input → Option (List Form) → Result ((ℕ × Operand) × Input) UnitFault
-said_at h at opcode p None = Err (record { at = at; what = Opcode })
-said_at h at opcode p (Some forms) = values_at h forms p >>= λ values. Ok (said_by opcode values.0, values.1)
+-- the line and the rest of an entry whose opcode stands at `at`, by the codes of its forms
+abbrev pub said_at : Sizes → ℕ → Opcode → Input → Option (List ℕ) → Result ((ℕ × Operand) × Input) UnitFault
+said_at sizes at opcode p None = Err (record { at = at; what = UnknownOpcode })
+said_at sizes at opcode p (Some codes) = values_at sizes codes p >>= λ values. Ok (said_by opcode values.0, values.1)
 
 -- an entry of these parts
 abbrev pub made_of : ℕ → ℕ → (ℕ × Operand) × Input → Result (Option Entry × Input) UnitFault
@@ -53,8 +36,14 @@ made_of at opcode said = Ok (Some (record { at = at; opcode = opcode; line = sai
 
 -- what follows an opcode that stands at `at`
 abbrev pub behind_opcode : Header → ℕ → ℕ × Input → Result (Option Entry × Input) UnitFault
-behind_opcode h at opcode = if opcode.0 == 0 then Ok (None, opcode.1) else (said_at h at opcode.0 opcode.1 (forms_of h opcode.0) >>= made_of at opcode.0)
+behind_opcode h at opcode =
+    if opcode.0 == 0 then Ok (None, opcode.1) else (said_at (sizes_of h) at (opcode_by_byte opcode.0) opcode.1 (forms_of h opcode.0) >>= made_of at opcode.0)
 
 -- the entry at a place, or nothing at the closing 0
 unfoldable pub entry_at : Header → Input → Result (Option Entry × Input) UnitFault
 entry_at h p = field (number_at 1 p) >>= behind_opcode h p.at
+
+-- what a call that goes over values answers: the place behind them, or the fault
+abbrev pub Skips : Input → Result (Unit {0}) UnitFault → Result (List Value × Input) UnitFault → Type 0
+Skips new (Ok done) reading = (values : List Value) × (reading ≡ Ok (values, new))
+Skips new (Err fault) reading = reading ≡ Err fault
