@@ -1,5 +1,6 @@
 use crate::stage::{Case, check, prints, refuses};
 use dwmac_run::Status;
+use std::alloc::{AllocError, Global};
 use std::test::Fail;
 
 const RAW: [&[u8]; 2] = [b"raw", b"t"];
@@ -53,6 +54,13 @@ fn raw_refuses_what_is_no_unit(rt: HostRuntime) -> Result<(), Fail> {
     Ok(())
 }
 
+/// A file of so many bytes with an empty unit at its front.
+fn unit_with_tail(alloc: Global, long: usize) -> Result<Vec<u8>, AllocError> {
+    let mut file = Vec::from_slice(alloc, b"\x05\x00\x00\x00")?;
+    file.resize(long, 0)?;
+    Ok(file)
+}
+
 #[test]
 fn raw_refuses_a_missing_and_a_long_file(rt: HostRuntime) -> Result<(), Fail> {
     let missing = refuses(
@@ -62,15 +70,14 @@ fn raw_refuses_a_missing_and_a_long_file(rt: HostRuntime) -> Result<(), Fail> {
         b"dwmac: n: NoSuchFile\n",
     );
     check(&rt, rt.alloc(), &missing)?;
-    let mut file = vec![in rt.alloc(); 0u8; 16_777_217]?;
+    let long = unit_with_tail(rt.alloc(), 16_777_217)?;
     check(
         &rt,
         rt.alloc(),
-        &refuses(&RAW, b"t", &file, b"dwmac: t: FileTooLong\n"),
+        &refuses(&RAW, b"t", long.as_slice(), b"dwmac: t: FileTooLong\n"),
     )?;
-    file[0] = 5;
-    let whole = prints(&RAW, b"t", &file[..16_777_216], b"");
-    check(&rt, rt.alloc(), &whole)
+    let whole = unit_with_tail(rt.alloc(), 16_777_216)?;
+    check(&rt, rt.alloc(), &prints(&RAW, b"t", whole.as_slice(), b""))
 }
 
 #[test]
