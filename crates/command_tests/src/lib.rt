@@ -1,0 +1,9 @@
+//! Tests of whole commands, over files and texts in memory.
+#![tactic(auto)]
+
+#[cfg(test)]
+mod outside;
+#[cfg(test)]
+mod raw;
+#[cfg(test)]
+mod stage;

@@ -1,0 +1,60 @@
+-- What a run leaves of the texts of `out` and `err`, by its answer and its status.
+use Rattle.std.specs.Prelude.{◌≡◌, ℕ, List, ◌++◌, codes, Option, ◌⊎◌}
+use Rattle.mac_io.specs.Calls.{grown, GrowsByFront}
+use Rattle.dwmac_run.specs.Answer.{Answer, Prints, Refuses, Misuse}
+use Rattle.dwmac_run.specs.declared.status.Status.{Status}
+use Rattle.dwmac_run.specs.declared.status.Status.TheVariants.{Ok, Refused, Usage, NoMemory, Outside}
+
+-- the line on words that fit no command
+abbrev pub usage_line : List ℕ
+usage_line = codes "dwmac: usage\n"
+
+-- the line on memory that ran out
+abbrev pub no_memory_line : List ℕ
+no_memory_line = codes "dwmac: no memory\n"
+
+-- the line on a shelf or a sink that failed
+abbrev pub outside_line : List ℕ
+outside_line = codes "dwmac: outside fault\n"
+
+-- the texts of `out` and `err`, where they are told
+pub record Texts : Type 0 where
+  pub out : Option (List ℕ)
+  pub err : Option (List ℕ)
+
+-- `out` is as before, and `err` has this line more
+abbrev pub Says : List ℕ → Texts → Texts → Type 0
+Says line old new = (new.out ≡ old.out) × (new.err ≡ grown old.err line)
+
+-- a front of this line more, and then a front of the line on the outside
+abbrev pub IsCut : List ℕ → Option (List ℕ) → Option (List ℕ) → Type 0
+IsCut line old new = (front back : List ℕ) × (line ≡ front ++ back) × GrowsByFront (grown old front) new outside_line
+
+-- `out` is as before, and `err` broke off in the midst of this line
+abbrev pub BreaksOff : List ℕ → Texts → Texts → Type 0
+BreaksOff line old new = (new.out ≡ old.out) × IsCut line old.err new.err
+
+-- `out` has a front of this text more, and `err` a front of the line on the outside
+abbrev pub PrintsPart : List ℕ → Texts → Texts → Type 0
+PrintsPart text old new = GrowsByFront old.out new.out text × GrowsByFront old.err new.err outside_line
+
+-- A run that has this answer to give ends with the status, and leaves the new texts of the old ones.
+abbrev pub Leaves : Answer → Status → Texts → Texts → Type 0
+Leaves (Prints text) Ok old new = (new.out ≡ grown old.out text) × (new.err ≡ old.err)
+Leaves (Refuses line) Refused old new = Says line old new
+Leaves Misuse Usage old new = Says usage_line old new
+-- memory may run out whatever the answer is
+Leaves (Prints text) NoMemory old new = Says no_memory_line old new
+Leaves (Refuses line) NoMemory old new = Says no_memory_line old new
+Leaves Misuse NoMemory old new = Says no_memory_line old new
+-- and the outside may fail: the shelf, `out` in the midst of a text, or `err` in the midst of a line
+Leaves (Prints text) Outside old new = PrintsPart text old new ⊎ BreaksOff no_memory_line old new
+Leaves (Refuses line) Outside old new = BreaksOff line old new ⊎ BreaksOff no_memory_line old new
+Leaves Misuse Outside old new = BreaksOff usage_line old new ⊎ BreaksOff no_memory_line old new
+-- no other status comes
+Leaves (Prints text) Refused old new = ⊥
+Leaves (Prints text) Usage old new = ⊥
+Leaves (Refuses line) Ok old new = ⊥
+Leaves (Refuses line) Usage old new = ⊥
+Leaves Misuse Ok old new = ⊥
+Leaves Misuse Refused old new = ⊥

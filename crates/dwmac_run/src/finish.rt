@@ -1,0 +1,78 @@
+ghost use Rattle.std.specs.Prelude.{◌≡◌, ◌≤◌, ◌≢◌, ◌⊎◌, ◌++◌, codes};
+ghost use Rattle.mac_io.specs.Causes.{Rose};
+ghost use Rattle.mac_io.specs.Calls.{GrowsByFront};
+ghost use Rattle.dwmac_run.specs.Leaves.{outside_line};
+ghost use Rattle.dwmac_run.specs.Answer.{refusal};
+ghost use Rattle.dwmac_run.specs.Outcome.{answer_of, word_of, Ends, EndsSaying, HasFailed};
+
+use crate::outcome::{FileFault, Outcome};
+use crate::printing::{write_lines, write_parts};
+use crate::status::Status;
+use mac_io::{Sink, Wrote};
+
+/// Prints an outcome, and says how the run ends.
+pub fn finish<O: Sink, E: Sink>(outcome: Outcome<'_>, out: &mut O, err: &mut E) -> Status
+    ensures ends { Ends (answer_of outcome.entry) result
+        (record { out = O.text out.old; err = E.text err.old }) (record { out = O.text out.new; err = E.text err.new }) }
+    ensures out { O.count out.old ≤ O.count out.new }
+    ensures err { E.count err.old ≤ E.count err.new }
+    ensures cause { result ≡ Status.Outside →
+        HasFailed outcome.entry ⊎ (Rose (O.count out.old) (O.count out.new) ⊎ Rose (E.count err.old) (E.count err.new)) }
+{
+    match outcome {
+        Outcome::Report(text) => match write_lines(out, text.as_slice()) {
+            Wrote::Done => Status::Ok,
+            Wrote::Failed => outside(err),
+        },
+        Outcome::Refused(file, fault) => refuse(err, file, fault),
+        Outcome::Usage => say(err, b"dwmac: usage\n", Status::Usage),
+        Outcome::NoMemory => say(err, b"dwmac: no memory\n", Status::NoMemory),
+        Outcome::Failed => outside(err),
+    }
+}
+
+/// Prints the line on a refused file.
+fn refuse<E: Sink>(err: &mut E, file: &[u8], fault: FileFault) -> Status
+    ensures said { EndsSaying (refusal file.now (word_of fault)) Status.Refused result (E.text err.old) (E.text err.new) }
+    ensures later { E.count err.old ≤ E.count err.new }
+    ensures cause { result ≡ Status.Outside → Rose (E.count err.old) (E.count err.new) }
+{
+    match write_parts(err, b"dwmac: ", file, ending(fault)) {
+        Wrote::Done => Status::Refused,
+        Wrote::Failed => outside(err),
+    }
+}
+
+/// What follows the file's name in its line.
+fn ending(fault: FileFault) -> &'static [u8]
+    ensures { result.now ≡ codes ": " ++ (word_of fault ++ codes "\n") }
+{
+    match fault {
+        FileFault::NoSuchFile => b": NoSuchFile\n",
+        FileFault::FileTooLong => b": FileTooLong\n",
+        FileFault::Unit => b": Unit\n",
+    }
+}
+
+/// Prints a line, and ends with the status.
+fn say<E: Sink>(err: &mut E, line: &[u8], status: Status) -> Status
+    requires { status ≢ Status.Outside }
+    ensures said { EndsSaying line.now status result (E.text err.old) (E.text err.new) }
+    ensures later { E.count err.old ≤ E.count err.new }
+    ensures cause { result ≡ Status.Outside → Rose (E.count err.old) (E.count err.new) }
+{
+    match err.write(line) {
+        Wrote::Done => status,
+        Wrote::Failed => outside(err),
+    }
+}
+
+/// Tries to print that the outside failed.
+fn outside<E: Sink>(err: &mut E) -> Status
+    ensures status { result ≡ Status.Outside }
+    ensures text { GrowsByFront (E.text err.old) (E.text err.new) outside_line }
+    ensures later { E.count err.old ≤ E.count err.new }
+{
+    let _ = err.write(b"dwmac: outside fault\n");
+    Status::Outside
+}

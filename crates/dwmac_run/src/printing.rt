@@ -1,0 +1,56 @@
+ghost use Rattle.std.specs.Prelude.{◌≡◌, ◌≤◌, ◌++◌};
+ghost use Rattle.std.specs.Prelude.{◌<◌, length};
+ghost use Rattle.mac_io.specs.Causes.{HasCause};
+ghost use Rattle.mac_io.specs.Calls.{Writes};
+
+use mac_io::{Sink, Wrote};
+use memchr::memchr;
+
+/// Writes a text with one write for each of its lines.
+pub fn write_lines<O: Sink>(out: &mut O, text: &[u8]) -> Wrote
+    ensures answer { Writes (O.text out.old) (O.text out.new) text.now result }
+    ensures cause { HasCause (O.count out.old) (O.count out.new) (result ≡ Wrote.Failed) }
+{
+    let mut rest = text;
+    while !rest.is_empty() {
+        let (line, after) = rest.split_at(line_len(rest));
+        match out.write(line) {
+            Wrote::Done => rest = after,
+            Wrote::Failed => return Wrote::Failed,
+        }
+    }
+    Wrote::Done
+}
+
+/// How many bytes the first line has, with its line feed.
+fn line_len(text: &[u8]) -> usize
+    requires { 0 < length text.now }
+    ensures some { 0 < result }
+    ensures within { result ≤ length text.now }
+{
+    match memchr(b'\n', text) {
+        Some(end) => end + 1,
+        None => text.len(),
+    }
+}
+
+/// Writes three pieces, one after another.
+pub fn write_parts<E: Sink>(err: &mut E, first: &[u8], second: &[u8], third: &[u8]) -> Wrote
+    ensures answer { Writes (E.text err.old) (E.text err.new) (first.now ++ second.now ++ third.now) result }
+    ensures cause { HasCause (E.count err.old) (E.count err.new) (result ≡ Wrote.Failed) }
+{
+    match write_two(err, first, second) {
+        Wrote::Done => err.write(third),
+        Wrote::Failed => Wrote::Failed,
+    }
+}
+
+fn write_two<E: Sink>(err: &mut E, first: &[u8], second: &[u8]) -> Wrote
+    ensures answer { Writes (E.text err.old) (E.text err.new) (first.now ++ second.now) result }
+    ensures cause { HasCause (E.count err.old) (E.count err.new) (result ≡ Wrote.Failed) }
+{
+    match err.write(first) {
+        Wrote::Done => err.write(second),
+        Wrote::Failed => Wrote::Failed,
+    }
+}

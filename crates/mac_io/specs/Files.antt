@@ -1,0 +1,42 @@
+-- The files of a store, by name. A store may tell them or not.
+use Rattle.std.specs.Prelude.{◌≡◌, ◌≢◌, ℕ, Bool, true, not, ◌&&◌, List, [], ◌∷◌, Option, None, Some}
+use Rattle.std.specs.Option.{option_map}
+use Rattle.std.specs.List.{list_any, zip}
+use Rattle.std.specs.Ordering.{nat_cmp}
+use Rattle.std.specs.Str.{bytes_eq}
+use Rattle.std.specs.Cmp.Lexicographic.{slice_cmp}
+use Rattle.std.specs.FinMap as map
+
+-- files by name
+abbrev pub Files : Type 0
+Files = map.FinMap (slice_cmp nat_cmp) (List ℕ)
+
+-- `file` is what a store has at a name: what it tells, and any where it doesn't tell
+abbrev pub IsFileAt : Option Files → List ℕ → Option (List ℕ) → Type 0
+IsFileAt None name file = Unit {0}
+IsFileAt (Some files) name file = map.get files name ≡ file
+
+-- the files with these bytes at the name
+abbrev pub with_file : Option Files → List ℕ → List ℕ → Option Files
+with_file told name bytes = option_map (λ files. map.insert files name bytes) told
+
+-- all files but that of the name are as before
+abbrev pub SameBut : Option Files → Option Files → List ℕ → Type 0
+SameBut None None name = Unit {0}
+SameBut (Some old) (Some new) name = (other : List ℕ) → other ≢ name → map.get new other ≡ map.get old other
+SameBut None (Some new) name = ⊥
+SameBut (Some old) None name = ⊥
+
+-- each name with the content at its place
+abbrev pub files_of : List (List ℕ) → List (List ℕ) → Files
+files_of names contents = map.from_entries (zip names contents)
+
+-- no name stands twice
+abbrev pub are_distinct : List (List ℕ) → Bool
+are_distinct [] = true
+are_distinct (name ∷ names) = not (list_any (λ other. bytes_eq other name) names) && are_distinct names
+
+-- the stores of a search path in order, each with its label and its files, and how often a call has failed
+pub record Stores : Type 0 where
+  pub stores : List (List ℕ × Option Files)
+  pub faults : ℕ

@@ -1,0 +1,38 @@
+use thiserror::Error;
+
+/// Why a file is refused (gABI, "ELF Header" and "Sections"). The faults are tested in the order in which they stand
+/// here. One that names a section is tested over all sections, from number 1 on, before the next fault.
+#[derive(Clone, Copy, Debug, PartialEq, Eq, Error)]
+pub enum ElfFault {
+    /// The file has fewer than 64 bytes or doesn't begin with `7f 45 4c 46`.
+    #[error("no ELF file")]
+    NotElf,
+    /// The file isn't a 64-bit one.
+    #[error("no 64-bit ELF file")]
+    Class,
+    /// Numbers don't stand lowest byte first.
+    #[error("an ELF file with the highest byte first")]
+    Order,
+    /// The file is neither an executable nor a shared object.
+    #[error("no linked ELF file")]
+    Kind,
+    /// The file has more sections than its header can count.
+    #[error("an ELF file with extended section numbers")]
+    Extended,
+    /// The table of sections has entries of another size than 64 bytes, which the header says at `at`, 58, or it
+    /// begins at `at` and isn't inside the file.
+    #[error("no table of sections, by the bytes at {at:#x}")]
+    Table { at: u64 },
+    /// The contents of section `n` aren't inside the file.
+    #[error("section {n} isn't inside the file")]
+    Range { n: u32 },
+    /// Section `n`, which is to hold the names, is none or no string table, or section `n` has no name in it.
+    #[error("no name for section {n}")]
+    Name { n: u32 },
+    /// Section `n` belongs to the family and is compressed.
+    #[error("section {n} is compressed")]
+    Compressed { n: u32 },
+    /// Section `n` belongs to the family and to no group, and so does an earlier one of its name.
+    #[error("section {n} is the second of its name")]
+    Twice { n: u32 },
+}

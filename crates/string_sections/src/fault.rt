@@ -1,0 +1,9 @@
+use thiserror::Error;
+
+/// Why nothing is found in a section.
+#[derive(Clone, Copy, Debug, PartialEq, Eq, Error)]
+pub enum StrFault {
+    /// The place is not inside the section, or what begins there doesn't end in it.
+    #[error("out of the section's range")]
+    Range,
+}

@@ -1,0 +1,13 @@
+//! String sections: the strings at their offsets, and the tables of offsets by which entries name them (DWARF 5,
+//! 7.5.5, 7.26).
+#![tactic(auto)]
+
+mod fault;
+mod offsets;
+mod strings;
+#[cfg(test)]
+mod tests;
+
+pub use fault::StrFault;
+pub use offsets::OffsetsView;
+pub use strings::{Strings, string_at};

@@ -1,0 +1,70 @@
+ghost use Rattle.std.specs.Prelude.{◌≡◌, ℕ, is_some};
+ghost use Rattle.string_sections.specs.Strings.{string_of, Finds, IsEnd};
+
+use crate::fault::StrFault;
+use mac_base::Cursor;
+use memchr::memrchr;
+use std::marker::Model;
+
+/// The string at an offset of a string section, without its NUL (DWARF 5, 7.5.5). `Range` where the offset is not
+/// inside the section or no NUL follows it.
+pub fn string_at(section: &[u8], off: u64) -> Result<&[u8], StrFault>
+    ensures { Finds (λ text. text.now) result (string_of section.now off) }
+{
+    let off = off as usize;
+    if section.len() < off {
+        return Err(StrFault::Range);
+    }
+    match Cursor::new(section, off).cstr() {
+        Ok(text) => Ok(text),
+        Err(_) => Err(StrFault::Range),
+    }
+}
+
+/// A string section, with the place behind its last NUL, so that many offsets are tested without a walk along their
+/// strings.
+#[derive(Drop)]
+pub struct Strings<'a> {
+    section: &'a [u8],
+    end: usize,
+}
+
+impl<'a> Model for Strings<'a> {
+    ghost use Rattle.std.specs.Prelude.{ℕ, List};
+    ghost use Rattle.string_sections.specs.Strings.{IsEnd};
+
+    ghost Value = { List ℕ };
+
+    ghost view = { λ s. s.section.now };
+
+    ghost invariant = { λ s. IsEnd s.section.now s.end };
+}
+
+impl<'a> Strings<'a> {
+    /// The strings of a section. It is walked once, from its end up to the last NUL.
+    pub fn new(section: &'a [u8]) -> Strings<'a>
+        ensures { result ≡ section.now }
+    {
+        Strings {
+            section,
+            end: end_of(section),
+        }
+    }
+
+    /// Whether a string is at an offset, in a time that depends on nothing.
+    pub fn is_string(&self, off: u64) -> bool
+        ensures { result ≡ is_some (string_of self.now off) }
+    {
+        off < self.end as u64
+    }
+}
+
+/// The place behind the last NUL, or 0 where there is none.
+fn end_of(section: &[u8]) -> usize
+    ensures { IsEnd section.now result }
+{
+    match memrchr(0, section) {
+        Some(last) => last + 1,
+        None => 0,
+    }
+}
