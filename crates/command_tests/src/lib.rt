@@ -2,8 +2,12 @@
 #![tactic(auto)]
 
 #[cfg(test)]
+mod elf;
+#[cfg(test)]
 mod outside;
 #[cfg(test)]
 mod raw;
 #[cfg(test)]
 mod stage;
+#[cfg(test)]
+mod unit;

@@ -1,6 +1,5 @@
 use crate::stage::{Case, check, prints, refuses};
 use dwmac_run::Status;
-use std::alloc::{AllocError, Global};
 use std::test::Fail;
 
 const RAW: [&[u8]; 2] = [b"raw", b"t"];
@@ -32,52 +31,107 @@ fn raw_prints_a_line_for_each_entry(rt: HostRuntime) -> Result<(), Fail> {
 }
 
 #[test]
-fn raw_refuses_what_is_no_unit(rt: HostRuntime) -> Result<(), Fail> {
-    for file in [
-        b"\x05\x00\x00\x01\x04N".as_slice(),
-        b"",
-        b"\x05",
-        b"\x04\x00\x00\x00",
-        b"\x05\x00\x01\x00",
-        b"\x05\x00\x00",
-        b"\x05\x00\x00\x05\x00\x00",
-        b"\x05\x00\x00\xe1\x00",
-        b"\x05\x00\x00\x03\x80",
-        b"\x05\x00\x00\x03\xff\xff\xff\xff\xff\xff\xff\xff\xff\x02\x00\x00",
+fn raw_prints_all_forms_of_entries(rt: HostRuntime) -> Result<(), Fail> {
+    for (file, out) in [
+        (
+            b"\x05\x00\x04\x01\xe1\x02\x0f\x0a\x01\x01A 1\x00\xe1\x81\x01\x02\xaa\xbb\x01\x02B 2\x00\x00".as_slice(),
+            b"0x8 define 1 A 1\n0xe vendor 0xe1\n0x14 define 2 B 2\n".as_slice(),
+        ),
+        (
+            b"\x05\x00\x00\x05\x07\x04\x00\x00\x00\x00",
+            b"0x3 define_strp 7 0x4\n",
+        ),
+        (
+            b"\x05\x00\x03\x01\x00\x00\x00\x00\x00\x00\x00\x06\x02\xff\x00\x00\x00\x00\x00\x00\x00\x07\x10\x00\x00\x00\x00\x00\x00\x00\x00",
+            b"0xb undef_strp 2 0xff\n0x15 import 0x10\n",
+        ),
+        (
+            b"\x05\x00\x02\x00\x00\x00\x00\x08\x01\x02\x00\x00\x00\x09\x01\x03\x00\x00\x00\x0a\x04\x00\x00\x00\x0b\x05\x06\x0c\x05\x07\x00",
+            b"0x7 define_sup 1 0x2\n0xd undef_sup 1 0x3\n0x13 import_sup 0x4\n0x18 define_strx 5 6\n0x1b undef_strx 5 7\n",
+        ),
+        (
+            b"\x05\x00\x04\x01\x01\x02\x0f\x08\x01\x01A\x00\x00",
+            b"0x8 define 1 A\n",
+        ),
+        (
+            b"\x05\x00\x04\x01\x0d\x04\x0d\x1e\x0c\x27\x0d\x7f0123456789abcdef\x01abc\x00",
+            b"0x9 vendor 0xd\n",
+        ),
     ] {
-        check(
-            &rt,
-            rt.alloc(),
-            &refuses(&RAW, b"t", file, b"dwmac: t: Unit\n"),
-        )?;
+        check(&rt, rt.alloc(), &prints(&RAW, b"t", file, out))?;
     }
     Ok(())
 }
 
-/// A file of so many bytes with an empty unit at its front.
-fn unit_with_tail(alloc: Global, long: usize) -> Result<Vec<u8>, AllocError> {
-    let mut file = Vec::from_slice(alloc, b"\x05\x00\x00\x00")?;
-    file.resize(long, 0)?;
-    Ok(file)
+#[test]
+fn raw_names_the_first_fault(rt: HostRuntime) -> Result<(), Fail> {
+    for (file, err) in [
+        (
+            b"\x05\x00\x00\x01\x04N".as_slice(),
+            b"dwmac: t: Unit NoNul at 0x5\n".as_slice(),
+        ),
+        (
+            b"\x05\x00\x00\x01\x01A 1\x00\xe1\x00",
+            b"dwmac: t: Unit Opcode at 0x9\n",
+        ),
+        (b"", b"dwmac: t: Unit Cut at 0x0\n"),
+        (b"\x05", b"dwmac: t: Unit Cut at 0x0\n"),
+        (b"\x06\x00\x00\x00", b"dwmac: t: Unit Version at 0x0\n"),
+        (b"\x05\x00\x08\x00", b"dwmac: t: Unit Flags at 0x2\n"),
+        (b"\x05\x00", b"dwmac: t: Unit Cut at 0x2\n"),
+        (b"\x05\x00\x02\x00\x00", b"dwmac: t: Unit Cut at 0x3\n"),
+        (b"\x05\x00\x00", b"dwmac: t: Unit Cut at 0x3\n"),
+        (
+            b"\x05\x00\x04\x01\x00\x00\x00",
+            b"dwmac: t: Unit OperandTable at 0x4\n",
+        ),
+        (
+            b"\x05\x00\x04\x02\xe1\x00\xe1\x00\x00",
+            b"dwmac: t: Unit OperandTable at 0x6\n",
+        ),
+        (
+            b"\x05\x00\x04\x01\x01\x01\x0f\x00",
+            b"dwmac: t: Unit OperandTable at 0x4\n",
+        ),
+        (
+            b"\x05\x00\x04\x01\x01\x02\x99\x08",
+            b"dwmac: t: Unit OperandTable at 0x4\n",
+        ),
+        (
+            b"\x05\x00\x04\x01\x01\x02\x0f",
+            b"dwmac: t: Unit Cut at 0x7\n",
+        ),
+        (
+            b"\x05\x00\x04\x01\xe1\x01\x99\x00",
+            b"dwmac: t: Unit Form at 0x6\n",
+        ),
+        (
+            b"\x05\x00\x04\x01\xe1\x01\x19\x00",
+            b"dwmac: t: Unit Form at 0x6\n",
+        ),
+        (
+            b"\x05\x00\x00\x01\x80\x80\x80\x80\x80\x80\x80\x80\x80\x02A\x00\x00",
+            b"dwmac: t: Unit Leb at 0x4\n",
+        ),
+        (
+            b"\x05\x00\x00\x05\x07\x04\x00",
+            b"dwmac: t: Unit Cut at 0x5\n",
+        ),
+    ] {
+        check(&rt, rt.alloc(), &refuses(&RAW, b"t", file, err))?;
+    }
+    Ok(())
 }
 
 #[test]
-fn raw_refuses_a_missing_and_a_long_file(rt: HostRuntime) -> Result<(), Fail> {
+fn raw_refuses_a_missing_file(rt: HostRuntime) -> Result<(), Fail> {
     let missing = refuses(
         &[b"raw", b"n"],
         b"t",
         b"\x05\x00\x00\x00",
         b"dwmac: n: NoSuchFile\n",
     );
-    check(&rt, rt.alloc(), &missing)?;
-    let long = unit_with_tail(rt.alloc(), 16_777_217)?;
-    check(
-        &rt,
-        rt.alloc(),
-        &refuses(&RAW, b"t", long.as_slice(), b"dwmac: t: FileTooLong\n"),
-    )?;
-    let whole = unit_with_tail(rt.alloc(), 16_777_216)?;
-    check(&rt, rt.alloc(), &prints(&RAW, b"t", whole.as_slice(), b""))
+    check(&rt, rt.alloc(), &missing)
 }
 
 #[test]
@@ -90,7 +144,12 @@ fn other_words_are_misuse(rt: HostRuntime) -> Result<(), Fail> {
         [b"raw".as_slice(), b"-t"].as_slice(),
         [b"raw".as_slice(), b"t", b"t"].as_slice(),
         [b"list".as_slice(), b"t", b"0"].as_slice(),
-        [b"--help".as_slice()].as_slice(),
+        [b"--help".as_slice(), b"raw"].as_slice(),
+        [b"unit".as_slice(), b"t"].as_slice(),
+        [b"unit".as_slice(), b"t", b"0"].as_slice(),
+        [b"unit".as_slice(), b"t", b"0x"].as_slice(),
+        [b"unit".as_slice(), b"t", b"0x12345678123456781"].as_slice(),
+        [b"unit".as_slice(), b"t", b"0xg"].as_slice(),
     ] {
         let case = Case {
             status: Status::Usage,
@@ -99,4 +158,16 @@ fn other_words_are_misuse(rt: HostRuntime) -> Result<(), Fail> {
         check(&rt, rt.alloc(), &case)?;
     }
     Ok(())
+}
+
+#[test]
+fn help_and_version_are_printed(rt: HostRuntime) -> Result<(), Fail> {
+    let help =
+        b"usage: dwmac raw FILE\n       dwmac unit FILE OFF\n       dwmac --help\n       dwmac --version\n";
+    check(&rt, rt.alloc(), &prints(&[b"--help"], b"t", b"", help))?;
+    check(
+        &rt,
+        rt.alloc(),
+        &prints(&[b"--version"], b"t", b"", b"dwmac 0.1.0\n"),
+    )
 }

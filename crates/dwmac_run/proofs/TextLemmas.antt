@@ -1,5 +1,5 @@
 -- Texts that grow piece by piece.
-use Rattle.std.proofs.Common.{◌≡◌, ℕ, List, [], ◌++◌, Option, Some, None, refl, ap, ◌∙◌, sym, append_assoc}
+use Rattle.std.proofs.Common.{◌≡◌, ℕ, List, [], ◌++◌, Option, Some, None, refl, ap, subst, ◌∙◌, sym, append_assoc}
 use Rattle.std.proofs.lemmas.List.{append-nil}
 use Rattle.mac_io.specs.Calls.{grown, GrowsByFront, Writes}
 use Rattle.mac_io.specs.declared.sink.Wrote.{Wrote}
@@ -38,3 +38,12 @@ writes_both old mid new a b Failed first second =
 -- a piece that failed, before one that was not tried
 pub writes_front : (old new : Option (List ℕ)) (a b : List ℕ) → GrowsByFront old new a → GrowsByFront old new (a ++ b)
 writes_front old new a b broken = (broken.0, broken.1 ++ b, ap (λ zs. zs ++ b) broken.2 ∙ append_assoc broken.0 broken.1 b, broken.3)
+
+-- a front, and then words with digits and an end
+pub refusal_written : (old mid new : Option (List ℕ)) (front words digits end : List ℕ) (answer : Wrote) → mid ≡ grown old front → Writes mid new (words ++ digits ++ end) answer → Writes old new (front ++ (words ++ digits) ++ end) answer
+refusal_written old mid new front words digits end answer first second =
+    subst (λ (xs : List ℕ). Writes old new xs answer) (sym (append_assoc front (words ++ digits) end)) (writes_both old mid new front (words ++ digits ++ end) answer first second)
+
+pub refusal_broken : (old new : Option (List ℕ)) (front words digits end : List ℕ) → GrowsByFront old new front → GrowsByFront old new (front ++ (words ++ digits) ++ end)
+refusal_broken old new front words digits end broken =
+    subst (λ (xs : List ℕ). GrowsByFront old new xs) (sym (append_assoc front (words ++ digits) end)) (writes_front old new front (words ++ digits ++ end) broken)

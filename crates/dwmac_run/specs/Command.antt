@@ -1,31 +1,75 @@
 -- Which words fit a command.
-use Rattle.std.specs.Prelude.{ℕ, Bool, false, ◌==◌, ◌&&◌, not, if◌then◌else◌, List, [], ◌∷◌, codes, Option, Some, None}
+use Rattle.std.specs.Prelude.{ℕ, Bool, false, ◌+◌, ◌*◌, ◌-◌, nat_le, ◌==◌, ◌&&◌, not, if◌then◌else◌, List, [], ◌∷◌, length, codes, Option, Some, None}
+use Rattle.std.specs.Option.{option_map}
 use Rattle.std.specs.List.{list_any}
 use Rattle.std.specs.Str.{bytes_eq}
 use Rattle.dwmac_run.specs.declared.command.Command.{Command as HeldCommand}
-use Rattle.dwmac_run.specs.declared.command.Command.TheVariants.{Raw as HeldRaw}
+use Rattle.dwmac_run.specs.declared.command.Command.TheVariants.{Raw as HeldRaw, Unit as HeldUnit, Help as HeldHelp, Version as HeldVersion}
 
 -- a command with its words
 pub data Command : Type 0 where
   -- the report on the unit at the front of this file
   Raw : List ℕ → Command
+  -- the report on the unit at this offset of the file's section of macro units
+  UnitAt : List ℕ → ℕ → Command
+  -- how the program is called
+  Help : Command
+  -- which program it is
+  Version : Command
 
 -- a command without where its words lie in memory
 abbrev pub plain : HeldCommand → Command
 plain (HeldRaw file) = Raw file.now
+plain (HeldUnit file offset) = UnitAt file.now offset
+plain HeldHelp = Help
+plain HeldVersion = Version
 
 -- A word that names a file is not empty, holds no NUL, and doesn't begin with `-` as options do.
 abbrev pub is_file_word : List ℕ → Bool
 is_file_word [] = false
 is_file_word (b ∷ bytes) = not (b == 45) && not (list_any (λ c. c == 0) (b ∷ bytes))
 
--- the command of this verb and this one word
-abbrev pub command_of_one : List ℕ → List ℕ → Option Command
-command_of_one verb file = if bytes_eq verb (codes "raw") && is_file_word file then Some (Raw file) else None
+-- the value of a hexadecimal digit of either case
+abbrev pub hex_value : ℕ → Option ℕ
+hex_value b =
+    if nat_le 48 b && nat_le b 57 then Some (b - 48)
+    else if nat_le 97 b && nat_le b 102 then Some (b - 87)
+    else if nat_le 65 b && nat_le b 70 then Some (b - 55)
+    else None
 
--- `raw FILE`, and nothing else
+-- with one more digit, if it is one, and then what follows
+abbrev pub hex_step : ℕ → Option ℕ → (ℕ → Option ℕ) → Option ℕ
+hex_step n None more = None
+hex_step n (Some digit) more = more (n * 16 + digit)
+
+-- the number of these digits behind those of a number, if all are digits
+abbrev pub hex_behind : ℕ → List ℕ → Option ℕ
+hex_behind n [] = Some n
+hex_behind n (b ∷ bytes) = hex_step n (hex_value b) (λ m. hex_behind m bytes)
+
+-- an offset: `0x` and 1 to 16 hexadecimal digits
+abbrev pub offset_of : List ℕ → Option ℕ
+offset_of [] = None
+offset_of (a ∷ []) = None
+offset_of (a ∷ b ∷ digits) =
+    if a == 48 && (b == 120 && (nat_le 1 (length digits) && nat_le (length digits) 16)) then hex_behind 0 digits else None
+
+-- the command of one word
+abbrev pub command_of_one : List ℕ → Option Command
+command_of_one word = if bytes_eq word (codes "--help") then Some Help else if bytes_eq word (codes "--version") then Some Version else None
+
+-- `raw FILE`
+abbrev pub command_of_two : List ℕ → List ℕ → Option Command
+command_of_two verb file = if bytes_eq verb (codes "raw") && is_file_word file then Some (Raw file) else None
+
+-- `unit FILE OFF`
+abbrev pub command_of_three : List ℕ → List ℕ → List ℕ → Option Command
+command_of_three verb file offset = if bytes_eq verb (codes "unit") && is_file_word file then option_map (UnitAt file) (offset_of offset) else None
+
+-- the command that the words fit
 abbrev pub command_of : List (List ℕ) → Option Command
 command_of [] = None
-command_of (verb ∷ []) = None
-command_of (verb ∷ file ∷ []) = command_of_one verb file
-command_of (verb ∷ file ∷ other ∷ words) = None
+command_of (word ∷ []) = command_of_one word
+command_of (verb ∷ file ∷ []) = command_of_two verb file
+command_of (verb ∷ file ∷ offset ∷ []) = command_of_three verb file offset
+command_of (verb ∷ file ∷ offset ∷ other ∷ words) = None

@@ -1,8 +1,11 @@
 pub mod Command
+pub mod Help
 pub mod Report
 pub mod Unit
+pub mod Refusals
+pub mod Numbers
 pub mod Answer
 pub mod Leaves
 pub mod Outcome
-pub mod Faults
+pub mod Telling
 pub mod Laws

@@ -1,25 +1,21 @@
 -- The answer that an outcome is, and how an outcome ends.
-use Rattle.std.specs.Prelude.{◌≡◌, ◌⊎◌, ℕ, List, codes, Option, Some, None}
+use Rattle.std.specs.Prelude.{◌≡◌, ◌⊎◌, ℕ, List, Option, Some, None}
 use Rattle.mac_io.specs.Calls.{grown}
-use Rattle.dwmac_run.specs.Answer.{Answer, Prints, Refuses, Misuse, refusal}
+use Rattle.dwmac_run.specs.Answer.{Answer, Prints, Refuses, Misuse}
+use Rattle.dwmac_run.specs.Help.{help_text, version_text}
 use Rattle.dwmac_run.specs.Leaves.{Texts, IsCut, Leaves}
+use Rattle.dwmac_run.specs.Refusals.{refusal_line, long_report_line}
 use Rattle.dwmac_run.specs.declared.status.Status.{Status}
 use Rattle.dwmac_run.specs.declared.status.Status.TheVariants.{Outside}
-use Rattle.dwmac_run.specs.declared.outcome.FileFault.{FileFault}
-use Rattle.dwmac_run.specs.declared.outcome.FileFault.TheVariants.{NoSuchFile, FileTooLong, Unit as NoUnit}
 use Rattle.dwmac_run.specs.declared.outcome.Outcome.{Outcome}
-use Rattle.dwmac_run.specs.declared.outcome.Outcome.TheVariants.{Report, Refused, Usage, NoMemory, Failed}
-
--- the word of a fault
-abbrev pub word_of : FileFault → List ℕ
-word_of NoSuchFile = codes "NoSuchFile"
-word_of FileTooLong = codes "FileTooLong"
-word_of NoUnit = codes "Unit"
+use Rattle.dwmac_run.specs.declared.outcome.Outcome.TheVariants.{Report, Text, Refused, TooLong, Usage, NoMemory, Failed}
 
 -- the answer, where it isn't that memory ran out or the shelf failed
 abbrev pub answer_of : Outcome → Option Answer
 answer_of (Report text) = Some (Prints text.items)
-answer_of (Refused file fault) = Some (Refuses (refusal file.now (word_of fault)))
+answer_of (Text text) = Some (Prints text.now)
+answer_of (Refused file refusal) = Some (Refuses (refusal_line file.now refusal))
+answer_of TooLong = Some (Refuses long_report_line)
 answer_of Usage = Some Misuse
 answer_of NoMemory = None
 answer_of Failed = None
@@ -27,7 +23,9 @@ answer_of Failed = None
 -- the shelf failed
 abbrev pub HasFailed : Outcome → Type 0
 HasFailed (Report text) = ⊥
-HasFailed (Refused file fault) = ⊥
+HasFailed (Text text) = ⊥
+HasFailed (Refused file refusal) = ⊥
+HasFailed TooLong = ⊥
 HasFailed Usage = ⊥
 HasFailed NoMemory = ⊥
 HasFailed Failed = Unit {0}

@@ -1,26 +1,47 @@
 -- The report on a macro unit: a line for each entry.
-use Rattle.std.specs.Prelude.{ℕ, ◌==◌, if◌then◌else◌, false, List, [], ◌++◌, codes, decimal}
+use Rattle.std.specs.Prelude.{ℕ, false, List, [], ◌++◌, codes, decimal}
 use Rattle.std.specs.Fmt.{digits}
 use Rattle.std.specs.List.{flat_map}
-use Rattle.macro_opcodes.specs.Entry.{Operand, None, File, Text, Entry}
+use Rattle.unit_header.specs.declared.opcode.Opcode.{Opcode}
+use Rattle.unit_header.specs.declared.opcode.Opcode.TheVariants.{Define, Undef, StartFile, EndFile, DefineStrp, UndefStrp, Import, DefineSup, UndefSup, ImportSup, DefineStrx, UndefStrx, Other as Listed}
+use Rattle.unit_header.specs.Opcodes.{opcode_by_byte}
+use Rattle.macro_opcodes.specs.Entry.{Operand, None, File, Text, Str, Index, Macro, SupStr, SupMacro, Other, Entry}
 
--- the name of an opcode (DWARF 5, 7.23)
-abbrev pub name_of : ℕ → List ℕ
-name_of opcode =
-    if opcode == 1 then codes "define"
-    else if opcode == 2 then codes "undef"
-    else if opcode == 3 then codes "start_file"
-    else codes "end_file"
+-- a number in hexadecimal
+abbrev pub hex : ℕ → List ℕ
+hex n = codes "0x" ++ digits 16 false n
+
+-- the name of an opcode, whose byte is printed where it has none (DWARF 5, 7.23)
+abbrev pub name_of : Opcode → ℕ → List ℕ
+name_of Define byte = codes "define"
+name_of Undef byte = codes "undef"
+name_of StartFile byte = codes "start_file"
+name_of EndFile byte = codes "end_file"
+name_of DefineStrp byte = codes "define_strp"
+name_of UndefStrp byte = codes "undef_strp"
+name_of Import byte = codes "import"
+name_of DefineSup byte = codes "define_sup"
+name_of UndefSup byte = codes "undef_sup"
+name_of ImportSup byte = codes "import_sup"
+name_of DefineStrx byte = codes "define_strx"
+name_of UndefStrx byte = codes "undef_strx"
+name_of Listed byte = codes "vendor " ++ hex byte
 
 -- the place in hexadecimal, and the name
 abbrev pub head_of : ℕ → ℕ → List ℕ
-head_of at opcode = codes "0x" ++ digits 16 false at ++ codes " " ++ name_of opcode
+head_of at opcode = hex at ++ codes " " ++ name_of (opcode_by_byte opcode) opcode
 
--- the line in decimal and the rest; a text is printed as it is
+-- behind a space each: the line in decimal, and a text as it is, an index in decimal or an offset in hexadecimal
 abbrev pub tail_of : ℕ → Operand → List ℕ
 tail_of line None = []
 tail_of line (File index) = codes " " ++ decimal line ++ codes " " ++ decimal index
 tail_of line (Text text) = codes " " ++ decimal line ++ codes " " ++ text
+tail_of line (Str at) = codes " " ++ decimal line ++ codes " " ++ hex at
+tail_of line (Index index) = codes " " ++ decimal line ++ codes " " ++ decimal index
+tail_of line (Macro at) = codes " " ++ hex at
+tail_of line (SupStr at) = codes " " ++ decimal line ++ codes " " ++ hex at
+tail_of line (SupMacro at) = codes " " ++ hex at
+tail_of line Other = []
 
 -- the line of an entry
 abbrev pub line_of : Entry → List ℕ

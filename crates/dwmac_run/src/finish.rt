@@ -1,13 +1,15 @@
-ghost use Rattle.std.specs.Prelude.{◌≡◌, ◌≤◌, ◌≢◌, ◌⊎◌, ◌++◌, codes};
+ghost use Rattle.std.specs.Prelude.{◌≡◌, ◌≤◌, ◌≢◌, ◌⊎◌};
 ghost use Rattle.mac_io.specs.Causes.{Rose};
 ghost use Rattle.mac_io.specs.Calls.{GrowsByFront};
 ghost use Rattle.dwmac_run.specs.Leaves.{outside_line};
-ghost use Rattle.dwmac_run.specs.Answer.{refusal};
-ghost use Rattle.dwmac_run.specs.Outcome.{answer_of, word_of, Ends, EndsSaying, HasFailed};
+ghost use Rattle.dwmac_run.specs.Refusals.{refusal_line};
+ghost use Rattle.dwmac_run.specs.Outcome.{answer_of, Ends, EndsSaying, HasFailed};
 
-use crate::outcome::{FileFault, Outcome};
-use crate::printing::{write_lines, write_parts};
+use crate::outcome::Outcome;
+use crate::printing::{write_lines, write_refusal};
+use crate::refusal::Refusal;
 use crate::status::Status;
+use itoa::Buffer;
 use mac_io::{Sink, Wrote};
 
 /// Prints an outcome, and says how the run ends.
@@ -24,7 +26,12 @@ pub fn finish<O: Sink, E: Sink>(outcome: Outcome<'_>, out: &mut O, err: &mut E) 
             Wrote::Done => Status::Ok,
             Wrote::Failed => outside(err),
         },
-        Outcome::Refused(file, fault) => refuse(err, file, fault),
+        Outcome::Text(text) => match write_lines(out, text) {
+            Wrote::Done => Status::Ok,
+            Wrote::Failed => outside(err),
+        },
+        Outcome::Refused(file, refusal) => refuse(err, file, refusal),
+        Outcome::TooLong => say(err, b"dwmac: ReportTooLong\n", Status::Refused),
         Outcome::Usage => say(err, b"dwmac: usage\n", Status::Usage),
         Outcome::NoMemory => say(err, b"dwmac: no memory\n", Status::NoMemory),
         Outcome::Failed => outside(err),
@@ -32,25 +39,18 @@ pub fn finish<O: Sink, E: Sink>(outcome: Outcome<'_>, out: &mut O, err: &mut E) 
 }
 
 /// Prints the line on a refused file.
-fn refuse<E: Sink>(err: &mut E, file: &[u8], fault: FileFault) -> Status
-    ensures said { EndsSaying (refusal file.now (word_of fault)) Status.Refused result (E.text err.old) (E.text err.new) }
+fn refuse<E: Sink>(err: &mut E, file: &[u8], refusal: Refusal) -> Status
+    ensures said { EndsSaying (refusal_line file.now refusal) Status.Refused result (E.text err.old) (E.text err.new) }
     ensures later { E.count err.old ≤ E.count err.new }
     ensures cause { result ≡ Status.Outside → Rose (E.count err.old) (E.count err.new) }
 {
-    match write_parts(err, b"dwmac: ", file, ending(fault)) {
+    let (words, number) = refusal.words();
+    let mut hexadecimal = [0; 64];
+    let mut decimal = Buffer::new();
+    let digits = number.digits(&mut hexadecimal, &mut decimal);
+    match write_refusal(err, file, words, digits) {
         Wrote::Done => Status::Refused,
         Wrote::Failed => outside(err),
-    }
-}
-
-/// What follows the file's name in its line.
-fn ending(fault: FileFault) -> &'static [u8]
-    ensures { result.now ≡ codes ": " ++ (word_of fault ++ codes "\n") }
-{
-    match fault {
-        FileFault::NoSuchFile => b": NoSuchFile\n",
-        FileFault::FileTooLong => b": FileTooLong\n",
-        FileFault::Unit => b": Unit\n",
     }
 }
 

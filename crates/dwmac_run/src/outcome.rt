@@ -1,21 +1,16 @@
-/// Why a file is refused.
-#[derive(Clone, Copy, Debug, PartialEq, Eq)]
-pub enum FileFault {
-    /// The shelf has no file of this name.
-    NoSuchFile,
-    /// The file has more bytes than the command reads.
-    FileTooLong,
-    /// No macro unit that can be read stands at its front.
-    Unit,
-}
+use crate::refusal::Refusal;
 
 /// What a command came to, before it is printed.
 #[derive(Drop)]
 pub enum Outcome<'w> {
     /// A report for `out`.
     Report(Vec<u8>),
+    /// A text of the program's own for `out`.
+    Text(&'static [u8]),
     /// This file is refused.
-    Refused(&'w [u8], FileFault),
+    Refused(&'w [u8], Refusal),
+    /// The report has more bytes than are printed.
+    TooLong,
     /// The words fit no command.
     Usage,
     /// Memory ran out.

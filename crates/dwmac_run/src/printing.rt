@@ -1,5 +1,4 @@
-ghost use Rattle.std.specs.Prelude.{◌≡◌, ◌≤◌, ◌++◌};
-ghost use Rattle.std.specs.Prelude.{◌<◌, length};
+ghost use Rattle.std.specs.Prelude.{◌≡◌, ◌≤◌, ◌<◌, ◌++◌, length, codes};
 ghost use Rattle.mac_io.specs.Causes.{HasCause};
 ghost use Rattle.mac_io.specs.Calls.{Writes};
 
@@ -34,8 +33,19 @@ fn line_len(text: &[u8]) -> usize
     }
 }
 
+/// Writes the line on a refused file: its name, and words with digits behind them.
+pub fn write_refusal<E: Sink>(err: &mut E, file: &[u8], words: &[u8], digits: &[u8]) -> Wrote
+    ensures answer { Writes (E.text err.old) (E.text err.new) (codes "dwmac: " ++ file.now ++ codes ": " ++ (words.now ++ digits.now) ++ codes "\n") result }
+    ensures cause { HasCause (E.count err.old) (E.count err.new) (result ≡ Wrote.Failed) }
+{
+    match write_parts(err, b"dwmac: ", file, b": ") {
+        Wrote::Done => write_parts(err, words, digits, b"\n"),
+        Wrote::Failed => Wrote::Failed,
+    }
+}
+
 /// Writes three pieces, one after another.
-pub fn write_parts<E: Sink>(err: &mut E, first: &[u8], second: &[u8], third: &[u8]) -> Wrote
+fn write_parts<E: Sink>(err: &mut E, first: &[u8], second: &[u8], third: &[u8]) -> Wrote
     ensures answer { Writes (E.text err.old) (E.text err.new) (first.now ++ second.now ++ third.now) result }
     ensures cause { HasCause (E.count err.old) (E.count err.new) (result ≡ Wrote.Failed) }
 {

@@ -43,6 +43,11 @@ behind_opcode h at opcode =
 unfoldable pub entry_at : Header → Input → Result (Option Entry × Input) UnitFault
 entry_at h p = field (number_at 1 p) >>= behind_opcode h p.at
 
+-- these entries are read one after another from p on, and q is behind them
+abbrev pub AreRead : Header → Input → List Entry → Input → Type 0
+AreRead h p [] q = p ≡ q
+AreRead h p (e ∷ es) q = (r : Input) × (entry_at h p ≡ Ok (Some e, r)) × AreRead h r es q
+
 -- what a call that goes over values answers: the place behind them, or the fault
 abbrev pub Skips : Input → Result (Unit {0}) UnitFault → Result (List Value × Input) UnitFault → Type 0
 Skips new (Ok done) reading = (values : List Value) × (reading ≡ Ok (values, new))

@@ -1,0 +1,10 @@
+-- What `--help` and `--version` print.
+use Rattle.std.specs.Prelude.{ℕ, List, codes}
+
+-- how the program is called
+abbrev pub help_text : List ℕ
+help_text = codes "usage: dwmac raw FILE\n       dwmac unit FILE OFF\n       dwmac --help\n       dwmac --version\n"
+
+-- which program it is
+abbrev pub version_text : List ℕ
+version_text = codes "dwmac 0.1.0\n"

@@ -1,0 +1,16 @@
+ghost use Rattle.std.specs.Prelude.{◌≡◌};
+ghost use Rattle.dwmac_run.specs.Help as spec;
+
+/// How the program is called.
+pub fn help_text() -> &'static [u8]
+    ensures { result.now ≡ spec.help_text }
+{
+    b"usage: dwmac raw FILE\n       dwmac unit FILE OFF\n       dwmac --help\n       dwmac --version\n"
+}
+
+/// Which program it is.
+pub fn version_text() -> &'static [u8]
+    ensures { result.now ≡ spec.version_text }
+{
+    b"dwmac 0.1.0\n"
+}

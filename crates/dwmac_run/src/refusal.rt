@@ -1,0 +1,98 @@
+ghost use Rattle.std.specs.Prelude.{◌≡◌, ◌++◌, ℕ, List, codes};
+ghost use Rattle.dwmac_run.specs.Refusals.{elf_words, kind_name};
+ghost use Rattle.dwmac_run.specs.Numbers.{number_text};
+
+use crate::hexadecimal::hex_digits;
+use itoa::Buffer;
+use section_views::ElfFault;
+use unit_header::{UnitFault, UnitKind};
+
+/// Why a file is refused.
+#[derive(Clone, Copy, Debug, PartialEq, Eq)]
+pub enum Refusal {
+    /// The shelf has no file of this name.
+    NoSuchFile,
+    /// The file has more bytes than a command reads.
+    FileTooLong,
+    /// Its ELF headers have this fault.
+    Elf(ElfFault),
+    /// Its macro unit has this fault.
+    Unit(UnitFault),
+}
+
+/// A number at the end of a line.
+#[derive(Clone, Copy, Debug, PartialEq, Eq)]
+pub enum Number {
+    None,
+    Hex(u64),
+    Decimal(u32),
+}
+
+impl Refusal {
+    ghost use Rattle.dwmac_run.specs.Refusals.{words_on};
+    ghost use Rattle.dwmac_run.specs.Numbers.{number_text};
+
+    /// The words on a file that is refused for this, and the number behind them.
+    pub fn words(self) -> (&'static [u8], Number)
+        ensures { result.0.now ++ number_text result.1 ≡ words_on self }
+    {
+        match self {
+            Refusal::NoSuchFile => (b"NoSuchFile", Number::None),
+            Refusal::FileTooLong => (b"FileTooLong", Number::None),
+            Refusal::Elf(fault) => elf_fault_words(fault),
+            Refusal::Unit(fault) => (unit_fault_words(fault.what), Number::Hex(fault.at)),
+        }
+    }
+}
+
+fn elf_fault_words(fault: ElfFault) -> (&'static [u8], Number)
+    ensures { result.0.now ++ number_text result.1 ≡ elf_words fault }
+{
+    match fault {
+        ElfFault::NotElf => (b"Elf NotElf", Number::None),
+        ElfFault::Class => (b"Elf Class", Number::None),
+        ElfFault::Order => (b"Elf Order", Number::None),
+        ElfFault::Kind => (b"Elf Kind", Number::None),
+        ElfFault::Extended => (b"Elf Extended", Number::None),
+        ElfFault::Table { at } => (b"Elf Table at 0x", Number::Hex(at)),
+        ElfFault::Range { n } => (b"Elf Range section ", Number::Decimal(n)),
+        ElfFault::Name { n } => (b"Elf Name section ", Number::Decimal(n)),
+        ElfFault::Compressed { n } => (b"Elf Compressed section ", Number::Decimal(n)),
+        ElfFault::Twice { n } => (b"Elf Twice section ", Number::Decimal(n)),
+    }
+}
+
+fn unit_fault_words(kind: UnitKind) -> &'static [u8]
+    ensures { (at : List ℕ) → result.now ++ at ≡ codes "Unit " ++ kind_name kind ++ codes " at " ++ (codes "0x" ++ at) }
+{
+    match kind {
+        UnitKind::Version => b"Unit Version at 0x",
+        UnitKind::Flags => b"Unit Flags at 0x",
+        UnitKind::Cut => b"Unit Cut at 0x",
+        UnitKind::Leb => b"Unit Leb at 0x",
+        UnitKind::NoNul => b"Unit NoNul at 0x",
+        UnitKind::OperandTable => b"Unit OperandTable at 0x",
+        UnitKind::Form => b"Unit Form at 0x",
+        UnitKind::Opcode => b"Unit Opcode at 0x",
+        UnitKind::StrRange => b"Unit StrRange at 0x",
+        UnitKind::ImportRange => b"Unit ImportRange at 0x",
+    }
+}
+
+impl Number {
+    ghost use Rattle.dwmac_run.specs.Numbers.{number_text};
+
+    /// Its digits, in one of these rooms.
+    pub fn digits<'r>(self, hexadecimal: &'r mut [u8; 64], decimal: &'r mut Buffer) -> &'r [u8]
+        ensures { result.now ≡ number_text self }
+    {
+        match self {
+            Number::None => &[],
+            Number::Hex(number) => {
+                let start = hex_digits(number, hexadecimal);
+                &hexadecimal[start..]
+            }
+            Number::Decimal(number) => decimal.format(number).as_bytes(),
+        }
+    }
+}
