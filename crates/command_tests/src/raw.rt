@@ -55,7 +55,7 @@ fn raw_prints_all_forms_of_entries(rt: HostRuntime) -> Result<(), Fail> {
         ),
         (
             b"\x05\x00\x04\x01\x0d\x04\x0d\x1e\x0c\x27\x0d\x7f0123456789abcdef\x01abc\x00",
-            b"0x9 vendor 0xd\n",
+            b"0xa vendor 0xd\n",
         ),
     ] {
         check(&rt, rt.alloc(), &prints(&RAW, b"t", file, out))?;

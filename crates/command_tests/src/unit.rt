@@ -14,12 +14,8 @@ const STRS: &[u8] = b"A 1\x00B 2\x00";
 fn unit_resolves_strings(rt: HostRuntime) -> Result<(), Fail> {
     let file = linked(rt.alloc(), MACROS, STRS)?;
     for offset in [b"0x0".as_slice(), b"0x0000000000000000"] {
-        let case = prints(
-            &[b"unit", b"f", offset],
-            b"f",
-            file.as_slice(),
-            b"0x3 define_strp 7 B 2\n",
-        );
+        let words = [b"unit".as_slice(), b"f", offset];
+        let case = prints(&words, b"f", file.as_slice(), b"0x3 define_strp 7 B 2\n");
         check(&rt, rt.alloc(), &case)?;
     }
     Ok(())
@@ -44,7 +40,8 @@ fn unit_names_the_first_fault(rt: HostRuntime) -> Result<(), Fail> {
         (&good, b"0x9", b"dwmac: f: Unit Cut at 0x9\n"),
         (&far, b"0x0", b"dwmac: f: Unit StrRange at 0x3\n"),
     ] {
-        let case = refuses(&[b"unit", b"f", offset], b"f", file.as_slice(), err);
+        let words = [b"unit".as_slice(), b"f", offset];
+        let case = refuses(&words, b"f", file.as_slice(), err);
         check(&rt, rt.alloc(), &case)?;
     }
     Ok(())
@@ -60,13 +57,14 @@ fn unit_names_the_fault_of_the_headers(rt: HostRuntime) -> Result<(), Fail> {
         (16, 1, b"dwmac: f: Elf Kind\n"),
         (60, 0, b"dwmac: f: Elf Extended\n"),
         (58, 63, b"dwmac: f: Elf Table at 0x3a\n"),
-        (60, 200, b"dwmac: f: Elf Table at 0x98\n"),
+        (60, 200, b"dwmac: f: Elf Table at 0x78\n"),
         (62, 7, b"dwmac: f: Elf Name section 7\n"),
     ] {
         let mut bad = Vec::from_slice(rt.alloc(), good.as_slice())?;
         assert!(&rt; place < bad.len());
         bad[place] = byte;
-        let case = refuses(&[b"unit", b"f", b"0x0"], b"f", bad.as_slice(), err);
+        let words = [b"unit".as_slice(), b"f", b"0x0"];
+        let case = refuses(&words, b"f", bad.as_slice(), err);
         check(&rt, rt.alloc(), &case)?;
     }
     Ok(())

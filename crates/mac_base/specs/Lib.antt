@@ -5,4 +5,6 @@ pub mod Forms
 pub mod Values
 pub mod ValueSpelling
 pub mod Laws
+pub mod Extents
 pub mod SectionBytes
+pub mod Names

@@ -1,23 +1,32 @@
-//! The plain types that every layer shares, a cursor that reads the fields of a section, and values in DWARF's forms.
+//! The plain types that every layer shares, a cursor that reads the fields of a section, and what the units of DWARF's
+//! sections share: their length, and values in forms.
 #![tactic(auto)]
 
 mod bytes;
 mod cursor;
+mod extent;
 mod form;
+mod frames;
 mod laws;
 mod leb;
 mod memory;
 mod paths;
+mod place;
 mod sections;
 mod steps;
+#[cfg(test)]
+mod tests;
 mod value;
 
 pub use bytes::Bytes;
 pub use cursor::{Cursor, CursorFault};
+pub use extent::{Extent, ExtentFault, extent_at};
 pub use form::{Form, Layout, form_of, layout_of};
+pub use frames::{Frame, Frames};
 pub use laws::fields_are_exact;
 pub use memory::NoMemory;
 pub use paths::Paths;
+pub use place::Place;
 pub use sections::Sections;
 pub use steps::Steps;
 pub use value::{Sizes, Value, read_offset, read_value};

@@ -76,7 +76,7 @@ fn fetch<R: Files>(rt: &R, name: &[u8], limit: usize, into: &mut Vec<u8>) -> Fet
 }
 
 /// Appends a file of at most so many bytes. Room for all of it is made first, since a buffer that grows piece by piece
-/// takes twice the memory.
+/// takes twice the memory; one byte more lets its end be seen without growing.
 fn read_file<F: Read + OpenFile + Drop>(file: F, limit: usize, into: &mut Vec<u8>) -> Fetched
     ensures { (file : Option (List ℕ)) × Fetches file limit result into.old.items into.new.items }
 {
@@ -87,7 +87,7 @@ fn read_file<F: Read + OpenFile + Drop>(file: F, limit: usize, into: &mut Vec<u8
     if length > limit {
         return Fetched::TooLong;
     }
-    match into.reserve(length) {
+    match into.reserve(length.saturating_add(1)) {
         Ok(()) => read_up_to(file, limit, into),
         Err(_) => Fetched::NoMemory,
     }

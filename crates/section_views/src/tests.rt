@@ -83,7 +83,7 @@ const UNIT: [u8; 10] = [5, 0, 0, 5, 7, 4, 0, 0, 0, 0];
 
 const STRINGS: [u8; 8] = *b"A 1\0B 2\0";
 
-/// A linked file as it is written: a unit with one entry, the strings, and empty sections.
+/// A linked file: a unit with one entry, the strings that it names, and empty sections.
 fn linked(alloc: Global) -> Result<Vec<u8>, Fail> {
     let part = |name, bytes| Part {
         name,
@@ -103,7 +103,7 @@ fn linked(alloc: Global) -> Result<Vec<u8>, Fail> {
     )
 }
 
-/// Where the table of sections of that file begins, the sections of the family in it, and the last of the names' bytes.
+/// Where the table of sections of that file begins, and where entries of it stand.
 const TABLE: usize = 176;
 
 const MACRO: usize = TABLE + 64;
@@ -118,6 +118,7 @@ const INFO: usize = TABLE + 64 * 5;
 
 const ABBREV: usize = TABLE + 64 * 6;
 
+/// Where the last byte of the names stands.
 const LAST_NUL: usize = 173;
 
 /// Where fields stand in an entry of the table.

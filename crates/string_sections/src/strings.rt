@@ -51,6 +51,13 @@ impl<'a> Strings<'a> {
         }
     }
 
+    /// The section.
+    pub fn section(&self) -> &'a [u8]
+        ensures { result.now ≡ self.now }
+    {
+        self.section
+    }
+
     /// Whether a string is at an offset, in a time that depends on nothing.
     pub fn is_string(&self, off: u64) -> bool
         ensures { result ≡ is_some (string_of self.now off) }

@@ -1,0 +1,2 @@
+pub mod AbbreviationLemmas
+pub mod RootLemmas

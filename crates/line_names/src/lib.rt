@@ -1,0 +1,16 @@
+//! The files that a line table names (DWARF 5, 6.2.4).
+#![tactic(auto)]
+
+mod entry;
+mod fault;
+mod format;
+mod header;
+mod path;
+mod sections;
+mod tables;
+#[cfg(test)]
+mod tests;
+
+pub use fault::{LineFault, LineKind};
+pub use sections::LineTables;
+pub use tables::{files_at, read_files};

@@ -1,0 +1,4 @@
+pub mod TableLemmas
+pub mod FileTableLemmas
+pub mod RenamedLemmas
+pub mod Examples

@@ -1,0 +1,16 @@
+pub mod Examples
+pub mod MeasureLemmas
+pub mod TableLemmas
+pub mod FrontLemmas
+pub mod LongestLemmas
+pub mod ScanLemmas
+pub mod NulLemmas
+pub mod KindLemmas
+pub mod Bounds
+pub mod TokenLemmas
+pub mod PunctLemmas
+pub mod WordLemmas
+pub mod RawLemmas
+pub mod CleanLemmas
+pub mod UniqueLemmas
+pub mod PrintLemmas

@@ -1,0 +1,11 @@
+use Rattle.std.proofs.Common.{◌≡◌, Some, sym, ◌∙◌, ap}
+use Rattle.pp_tokens.specs.Cleaning.{bytes_of}
+use Rattle.pp_tokens.specs.Cut.{piece_at, header_may_stand}
+use Rattle.pp_tokens.proofs.ScanLemmas.{piece-fits}
+use Rattle.pp_tokens.proofs.scanning.step.Goals as goal
+
+pub put_piece-requires-clause-some : goal.put_piece-requires-clause-some
+put_piece-requires-clause-some c =
+    let stands : piece_at c.args.lines (header_may_stand c.args.page.now.tokens) (bytes_of c.args.chars.now) ≡ Some (c.in-Some.what, c.in-Some.count) =
+        ap (λ t. piece_at c.args.lines t (bytes_of c.args.chars.now)) (sym c.header_may_stand.ensures) ∙ sym c.piece.ensures ∙ c.in-Some.is in
+    (piece-fits c.args.lines (header_may_stand c.args.page.now.tokens) c.args.chars.now c.in-Some.what c.in-Some.count stands).0

@@ -1,0 +1,132 @@
+ghost use Rattle.std.specs.Prelude.{◌≡◌, ◌==◌, ◌<◌, ◌≢◌, ◌+◌, ◌^◌, false, [], drop, length};
+ghost use Rattle.pp_tokens.specs.Cleaning.{bytes_of, on_line_one, cleaned, cleaned_from};
+ghost use Rattle.pp_tokens.specs.Cut.{line_of};
+ghost use Rattle.pp_tokens.specs.Kinds.{first_is};
+ghost use Rattle.pp_tokens.specs.Raw.{left_of, line_behind};
+ghost use Rattle.pp_tokens.specs.Scan.{first_byte};
+
+use crate::raw::{behind, front, past_return, past_splices};
+use std::marker::Model;
+
+/// The bytes of a text that are left, each with its line. Of a file they are cleaned as they are read.
+#[derive(Drop)]
+pub struct Chars<'a> {
+    rest: &'a [u8],
+    line: u64,
+    cleans: bool,
+}
+
+impl<'a> Model for Chars<'a> {
+    ghost use Rattle.std.specs.Prelude.{List};
+    ghost use Rattle.pp_tokens.specs.Cleaning.{Char};
+    ghost use Rattle.pp_tokens.specs.Raw.{left_of, IsPlace};
+
+    ghost Value = { List Char };
+
+    ghost view = { λ c. left_of c.cleans c.line c.rest.now };
+
+    ghost invariant = { λ c. IsPlace c.cleans c.line c.rest.now };
+}
+
+impl<'a> Chars<'a> {
+    /// The bytes of one text as they are, all on line 1.
+    pub fn of_text(bytes: &'a [u8]) -> Chars<'a>
+        ensures { result ≡ on_line_one bytes.now }
+    {
+        Chars {
+            rest: bytes,
+            line: 1,
+            cleans: false,
+        }
+    }
+
+    /// The bytes of a file that phases 1 and 2 leave.
+    pub fn of_file(bytes: &'a [u8]) -> Chars<'a>
+        ensures { result ≡ cleaned bytes.now }
+    {
+        Chars::settled(bytes, 1)
+    }
+
+    /// What is left of a file, from these bytes and this line on.
+    fn settled(bytes: &'a [u8], line: u64) -> Chars<'a>
+        requires { line + length bytes.now < 2 ^ 64 }
+        ensures { result ≡ cleaned_from line bytes.now }
+    {
+        let (rest, line) = past_splices(bytes, line);
+        Chars {
+            rest: past_return(rest),
+            line,
+            cleans: true,
+        }
+    }
+
+    /// What is left behind a byte on this line.
+    fn behind(cleans: bool, rest: &'a [u8], line: u64, byte: u8) -> Chars<'a>
+        requires bound { line + 1 + length rest.now < 2 ^ 64 }
+        requires one { cleans ≡ false → line ≡ 1 }
+        ensures { result ≡ left_of cleans (line_behind line byte) rest.now }
+    {
+        if !cleans {
+            return Chars::of_text(rest);
+        }
+        let line = if byte == b'\n' { line + 1 } else { line };
+        Chars::settled(rest, line)
+    }
+
+    /// The byte in front.
+    pub fn peek(&self) -> Option<u8>
+        ensures { result ≡ first_byte self.now }
+    {
+        match front(self.cleans, self.rest) {
+            Some((byte, _)) => Some(byte),
+            None => None,
+        }
+    }
+
+    /// Whether this byte stands in front.
+    pub fn is_at(&self, byte: u8) -> bool
+        ensures { result ≡ first_is (λ b. b == byte) (bytes_of self.now) }
+    {
+        match self.peek() {
+            Some(first) => first == byte,
+            None => false,
+        }
+    }
+
+    /// The line of the byte in front.
+    pub fn line(&self) -> u64
+        ensures { self.now ≢ [] → result ≡ line_of self.now }
+    {
+        self.line
+    }
+
+    /// Goes past the byte in front.
+    pub fn advance(&mut self)
+        ensures { self.new ≡ drop 1 self.old }
+    {
+        if let Some((byte, width)) = front(self.cleans, self.rest) {
+            *self = Chars::behind(self.cleans, behind(self.rest, width), self.line, byte);
+        }
+    }
+
+    /// Goes past the bytes in front, as many as there are.
+    pub fn skip(&mut self, count: usize)
+        ensures { self.new ≡ drop count self.old }
+    {
+        for _ in 0..count {
+            self.advance();
+        }
+    }
+
+    /// A second cursor at the same place.
+    pub fn fork(&self) -> Chars<'a>
+        ensures same { result ≡ self.now }
+        ensures bound { length result < 2 ^ 63 }
+    {
+        Chars {
+            rest: self.rest,
+            line: self.line,
+            cleans: self.cleans,
+        }
+    }
+}

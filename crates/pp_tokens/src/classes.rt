@@ -1,0 +1,50 @@
+ghost use Rattle.std.specs.Prelude.{◌≡◌};
+ghost use Rattle.pp_tokens.specs.Kinds.{is_digit, is_letter, is_word, is_quote, is_blank, is_exponent_sign, goes_on};
+
+/// `0` to `9`.
+pub fn is_digit(byte: u8) -> bool
+    ensures { result ≡ is_digit byte }
+{
+    byte >= 48 && byte <= 57
+}
+
+/// A letter, `_`, `$`, or a byte from 128 on.
+pub fn is_letter(byte: u8) -> bool
+    ensures { result ≡ is_letter byte }
+{
+    byte >= 65 && byte <= 90 || byte >= 97 && byte <= 122 || byte == b'_' || byte == b'$' || byte >= 128
+}
+
+pub fn is_word(byte: u8) -> bool
+    ensures { result ≡ is_word byte }
+{
+    is_letter(byte) || is_digit(byte)
+}
+
+/// `'` or `"`.
+pub fn is_quote(byte: u8) -> bool
+    ensures { result ≡ is_quote byte }
+{
+    byte == b'\'' || byte == b'"'
+}
+
+/// Space, horizontal and vertical tab, form feed and carriage return.
+pub fn is_blank(byte: u8) -> bool
+    ensures { result ≡ is_blank byte }
+{
+    byte == b' ' || byte == b'\t' || byte == 11 || byte == 12 || byte == b'\r'
+}
+
+/// A sign behind `e`, `E`, `p` or `P`.
+fn is_exponent_sign(before: u8, byte: u8) -> bool
+    ensures { result ≡ is_exponent_sign before byte }
+{
+    (byte == b'+' || byte == b'-') && (before == b'e' || before == b'E' || before == b'p' || before == b'P')
+}
+
+/// Whether the byte goes on with a number behind the other.
+pub fn goes_on(before: u8, byte: u8) -> bool
+    ensures { result ≡ goes_on before byte }
+{
+    is_word(byte) || byte == b'.' || is_exponent_sign(before, byte)
+}

@@ -1,0 +1,29 @@
+//! Translation phases 1 to 3 (C17 5.1.1.2 and 6.4): the tokens of a file and of a text, and how tokens are printed so
+//! that they are read back.
+#![tactic(auto)]
+
+mod chars;
+mod classes;
+mod fault;
+mod front;
+mod laws;
+mod lexing;
+mod line;
+mod measures;
+mod page;
+mod piece;
+mod printing;
+mod punctuators;
+mod raw;
+mod scanning;
+#[cfg(test)]
+mod tests;
+mod token;
+
+pub use fault::LexFault;
+pub use laws::cut_is_unique;
+pub use lexing::{lex_file, lex_text};
+pub use line::{Line, Lines};
+pub use piece::What;
+pub use printing::print_tokens;
+pub use token::{Kind, Token, Tokens};

@@ -1,0 +1,85 @@
+ghost use Rattle.std.specs.Prelude.{◌≡◌, ◌≢◌, ◌≤◌, ◌++◌, [], take, drop, IfOk, OnOk};
+ghost use Rattle.pp_tokens.specs.Cleaning.{bytes_of};
+ghost use Rattle.pp_tokens.specs.Cut.{put};
+ghost use Rattle.pp_tokens.specs.Scan.{Steps, Scans};
+
+use crate::chars::Chars;
+use crate::fault::LexFault;
+use crate::front::piece;
+use crate::page::Page;
+use crate::piece::What;
+use mac_base::{Bytes, NoMemory};
+use std::alloc::Global;
+
+/// Puts the byte in front at the end of a text, and goes past it.
+fn take_byte(text: &mut Vec<u8>, chars: &mut Chars<'_>) -> Result<(), NoMemory>
+    ensures text { OnOk result (text.new.items ≡ text.old.items ++ bytes_of (take 1 chars.old)) }
+    ensures left { OnOk result (chars.new ≡ drop 1 chars.old) }
+{
+    if let Some(byte) = chars.peek() {
+        text.push(byte)?;
+    }
+    chars.advance();
+    Ok(())
+}
+
+/// The next bytes, which are passed over.
+fn take_text(alloc: Global, count: usize, chars: &mut Chars<'_>) -> Result<Bytes, NoMemory>
+    ensures text { IfOk result (λ text. text ≡ bytes_of (take count chars.old)) }
+    ensures left { OnOk result (chars.new ≡ drop count chars.old) }
+{
+    let mut text = Vec::new(alloc);
+    for _ in 0..count {
+        take_byte(&mut text, chars)?;
+    }
+    Ok(Bytes::from_vec(text))
+}
+
+/// Puts the piece in front, of this length, on the page.
+fn put_piece(alloc: Global, what: What, count: usize, chars: &mut Chars<'_>, page: &mut Page) -> Result<(), NoMemory>
+    requires some { 1 ≤ count }
+    requires left { chars.old ≢ [] }
+    ensures page { OnOk result (page.new ≡ put page.old what (take count chars.old)) }
+    ensures left { OnOk result (chars.new ≡ drop count chars.old) }
+{
+    match what {
+        What::Blank | What::Comment => {
+            page.blank();
+            chars.skip(count);
+        }
+        What::LineEnd => {
+            page.end_line(alloc)?;
+            chars.skip(count);
+        }
+        What::Word(kind) => {
+            let line = chars.line();
+            let text = take_text(alloc, count, chars)?;
+            page.word(kind, text, line)?;
+        }
+    }
+    Ok(())
+}
+
+/// Reads the piece in front.
+fn step(alloc: Global, lines: bool, chars: &mut Chars<'_>, page: &mut Page) -> Result<(), LexFault>
+    requires { chars.old ≢ [] }
+    ensures { Steps lines page.old chars.old page.new chars.new result }
+{
+    let Some((what, count)) = piece(lines, page.header_may_stand(), chars) else {
+        return Err(LexFault::OpenComment { line: chars.line() });
+    };
+    match put_piece(alloc, what, count, chars, page) {
+        Ok(()) => Ok(()),
+        Err(_) => Err(LexFault::NoMemory),
+    }
+}
+
+/// Reads all pieces.
+pub fn scan(alloc: Global, lines: bool, chars: &mut Chars<'_>, page: &mut Page) -> Result<(), LexFault>
+    ensures { Scans lines page.old chars.old page.new result }
+{
+    'pieces: while chars.peek().is_some() {
+        step(alloc, lines, chars, page)?;
+    }
+    Ok(())
+}

@@ -1,0 +1,97 @@
+use crate::fault::LexFault;
+use crate::lexing::{lex_file, lex_text};
+use crate::line::{Line, Lines};
+use crate::printing::print_tokens;
+use crate::token::{Kind, Token, Tokens};
+use mac_base::{Bytes, NoMemory};
+use std::alloc::Global;
+use std::process::Abort;
+use std::test::Fail;
+
+/// The letter of a kind in the tables below.
+fn letter(kind: Kind) -> u8 {
+    match kind {
+        Kind::Identifier => b'I',
+        Kind::Number => b'N',
+        Kind::Char => b'C',
+        Kind::Str => b'S',
+        Kind::Punct => b'P',
+        Kind::Header => b'H',
+        Kind::LoneQuote => b'Q',
+        Kind::Other => b'O',
+    }
+}
+
+/// Each token as a blank or, where white space stands before it, `~`, the letter of its kind and its text.
+fn put_tokens(shown: &mut Vec<u8>, tokens: &Tokens) -> Result<(), NoMemory> {
+    for token in tokens.as_slice() {
+        shown.push(if token.space { b'~' } else { b' ' })?;
+        shown.push(letter(token.kind))?;
+        shown.extend_from_slice(token.text.as_slice())?;
+    }
+    Ok(())
+}
+
+/// Each line as the last digit of its number and its tokens.
+fn shown_lines(alloc: Global, lines: &Lines) -> Result<Vec<u8>, NoMemory> {
+    let mut shown = Vec::new(alloc);
+    for line in lines.as_slice() {
+        shown.push(b'0' + (line.number % 10) as u8)?;
+        put_tokens(&mut shown, &line.tokens)?;
+        shown.push(b';')?;
+    }
+    Ok(shown)
+}
+
+#[test]
+fn files_are_cut_as_the_standard_says(rt: HostRuntime) -> Result<(), Fail> {
+    let cases: [(&[u8], &[u8]); 41] = [
+        (b"a+++b", b"1 Ia P++ P+ Ib;"),
+        (b"x/**/y", b"1 Ix~Iy;"),
+        (b"a //b\nc", b"1 Ia;2 Ic;"),
+        (b"a //", b"1 Ia;"),
+        (b"//a??/\nb\nc", b"3 Ic;"),
+        (b"%:%:", b"1 P%:%:;"),
+        (b"%:%", b"1 P%: P%;"),
+        (b"<::", b"1 P<: P:;"),
+        (b"...", b"1 P...;"),
+        (b"..", b"1 P. P.;"),
+        (b"1e+5", b"1 N1e+5;"),
+        (b"0x1p-3", b"1 N0x1p-3;"),
+        (b"1+5", b"1 N1 P+ N5;"),
+        (b".5.5", b"1 N.5.5;"),
+        (b"L'a'", b"1 CL'a';"),
+        (b"u8\"x\"", b"1 Su8\"x\";"),
+        (b"u8'x'", b"1 Iu8 C'x';"),
+        (b"uu'x'", b"1 Iuu C'x';"),
+        (b"''", b"1 Q' Q';"),
+        (b"''a'", b"1 Q' C'a';"),
+        (b"'a", b"1 Q' Ia;"),
+        (b"\"a", b"1 Q\" Ia;"),
+        (b"L\"a\nb\"", b"1 IL Q\" Ia;2 Ib Q\";"),
+        (b"\"\\\"\"", b"1 S\"\\\"\";"),
+        (b"\"\"", b"1 S\"\";"),
+        (b"#include <a//b>\n", b"1 P# Iinclude~H<a//b>;"),
+        (b"#include \"a\\\"", b"1 P# Iinclude~H\"a\\\";"),
+        (b"%:include<a>", b"1 P%: Iinclude H<a>;"),
+        (b"#include <a\n>", b"1 P# Iinclude~P< Ia;2 P>;"),
+        (b"#include x <a>", b"1 P# Iinclude~Ix~P< Ia P>;"),
+        (b"/*\n*/ # /**/ include /**/ <a>", b"2 P#~Iinclude~H<a>;"),
+        (b"a\\\nb\nc", b"1 Iab;3 Ic;"),
+        (b"a??/\r\nb", b"1 Iab;"),
+        (b"/* *\\\n/ a /**\\\r\n/ b", b"2 Ia~Ib;"),
+        (b"a\\\n", b"1 Ia;"),
+        (b"a\r\nb\rc", b"1 Ia;2 Ib~Ic;"),
+        (b"", b""),
+        (b" /*a*/ //b\n\n", b""),
+        (b"/*\n\n*/ a /*\n*/ b\nc", b"3 Ia~Ib;5 Ic;"),
+        (b"??= ??( ??! ???/", b"1 P#~P[~P|~P? O\\;"),
+        (b"@ \xc3\xa9 $x `", b"1 O@~I\xc3\xa9~I$x~O`;"),
+    ];
+    for (text, wanted) in cases {
+        let lines = lex_file(rt.alloc(), text)?;
+        let shown = shown_lines(rt.alloc(), &lines)?;
+        assert_eq!(rt; shown.as_slice(), wanted);
+    }
+    Ok(())
+}
