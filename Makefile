@@ -2,7 +2,7 @@
 PREFIX ?= /usr/local
 PROGRAM := crates/dwmac/out/dwmac
 
-.PHONY: build demo test install bench
+.PHONY: build demo test install bench peers
 
 # Proves and builds the program.
 build:
@@ -22,3 +22,7 @@ install: build
 # Time and memory on large input.
 bench: build
 	@bench/run
+
+# Compares with tools of this machine, where they are there.
+peers: build
+	@scripts/peers

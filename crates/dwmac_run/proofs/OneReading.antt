@@ -18,7 +18,6 @@ use Rattle.macro_opcodes.proofs.UnitLemmas.{one_unit}
 use Rattle.dwmac_run.specs.Report.{report}
 use Rattle.dwmac_run.specs.Unit.{shown, AreShown, IsReportOf, FailsAt, FailsBehind, IsFirstFault}
 
-
 same_fault : {A : Type 0} (r : Result A UnitFault) (a b : UnitFault) → r ≡ Err a → r ≡ Err b → a ≡ b
 same_fault r a b is also = cc
 

@@ -16,6 +16,7 @@ pub struct StringSection<'a> {
 }
 
 impl<'a> StringSection<'a> {
+    /// The section with these bytes.
     pub fn new(bytes: &'a [u8]) -> StringSection<'a>
         ensures { result.bytes.now ≡ bytes.now }
     {
@@ -69,7 +70,10 @@ fn no_string(at: u64) -> UnitFault
 }
 
 /// The entry as it is printed: with its string, where strings are looked up.
-pub fn show<'a>(strs: Option<&StringSection<'a>>, entry: RawEntry<'a>) -> Result<RawEntry<'a>, UnitFault>
+pub fn show<'a>(
+    strs: Option<&StringSection<'a>>,
+    entry: RawEntry<'a>,
+) -> Result<RawEntry<'a>, UnitFault>
     ensures ok { IfOk result (λ line. shown (option_map (λ s. s.now.bytes.now) strs.entry) (entry_of entry.entry) ≡ Ok (entry_of line)) }
     ensures err { IfErr result (λ fault. shown (option_map (λ s. s.now.bytes.now) strs.entry) (entry_of entry.entry) ≡ Err fault) }
 {

@@ -21,6 +21,7 @@ pub struct Telling {
 }
 
 impl Telling {
+    /// An empty report.
     pub fn new(alloc: Global) -> Telling
         ensures { Tells result.is_long result.text.items [] }
     {
@@ -31,7 +32,11 @@ impl Telling {
     }
 
     /// Adds the line of an entry, with its string where strings are looked up.
-    pub fn add<'a>(&mut self, strs: Option<&StringSection<'a>>, entry: RawEntry<'a>) -> Result<(), Stop>
+    pub fn add<'a>(
+        &mut self,
+        strs: Option<&StringSection<'a>>,
+        entry: RawEntry<'a>,
+    ) -> Result<(), Stop>
         ensures told { OnOk result ((line : Entry) × (shown (option_map (λ s. s.now.bytes.now) strs.entry) (entry_of entry.entry) ≡ Ok line)
             × ((lines : List Entry) → Tells self.old.is_long self.old.text.items lines → Tells self.new.is_long self.new.text.items (lines ++ line ∷ []))) }
         ensures stop { IfErr result (λ stop. AddStops stop (shown (option_map (λ s. s.now.bytes.now) strs.entry) (entry_of entry.entry))) }

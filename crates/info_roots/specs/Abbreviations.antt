@@ -13,6 +13,7 @@ pub record Abbreviation : Type 0 where
   pub tag : ℕ
   pub attributes : List Attribute
 
+-- the abbreviation that a held one stands for
 abbrev pub abbreviation_of : HeldAbbreviation → Abbreviation
 abbreviation_of a = record { tag = a.tag; attributes = a.attributes.items }
 
@@ -21,6 +22,7 @@ pub record Declaration : Type 0 where
   pub code : ℕ
   pub abbreviation : Abbreviation
 
+-- and a held declaration
 abbrev pub declaration_of : HeldDeclaration → Declaration
 declaration_of d = record { code = d.code; abbreviation = abbreviation_of d.abbreviation }
 

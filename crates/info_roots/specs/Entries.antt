@@ -41,6 +41,7 @@ pub record Entry : Type 0 where
   pub macros : Option ℕ
   pub dir_first : Bool
 
+-- the entry that a held one stands for
 abbrev pub entry_of : HeldEntry → Entry
 entry_of e = record { name = option_map text_of e.name; dir = option_map text_of e.dir; line = e.line; str_base = e.str_base; macros = e.macros; dir_first = e.dir_first }
 
@@ -79,6 +80,7 @@ abbrev pub form_offsets : Form → Bool
 form_offsets SecOffset = true
 form_offsets _ = false
 
+-- whether an attribute of this meaning can have the form: names and directories have strings, the others offsets
 abbrev pub form_fits : Role → Form → Bool
 form_fits Name form = form_names form
 form_fits Dir form = form_names form
@@ -90,6 +92,7 @@ not_implicit None = None
 not_implicit (Some ImplicitConst) = None
 not_implicit (Some form) = Some form
 
+-- the form that this code names behind DW_FORM_indirect
 abbrev pub inner_by_code : ℕ → Option Form
 inner_by_code code = not_implicit (form_by_code code)
 
@@ -104,6 +107,7 @@ passed_at sizes code p =
     if code == 0x16 then (field (uleb_at p) >>= λ inner. passed_in sizes p.at (inner_by_code inner.0) inner.1)
     else passed_in sizes p.at (form_by_code code) p
 
+-- the number that a value is
 abbrev pub number_in : Value → ℕ
 number_in (Number n) = n
 number_in _ = 0
@@ -114,6 +118,7 @@ text_in Strp n = Str n
 text_in LineStrp n = LineStr n
 text_in _ n = Index n
 
+-- the string that a value in this form is, or where it is found
 abbrev pub text_by : Form → Value → Text
 text_by form (Characters text) = Here text
 text_by form (Number n) = text_in form n
@@ -134,6 +139,7 @@ fitting_in sizes role form e p =
     if form_fits role form then (field (value_at sizes (layout_by_form form) p) >>= λ value. Ok (with_role role form value.0 e, value.1))
     else Err (fault_at p.at UnfitForm)
 
+-- the entry with the value that stands here, where the form fits
 abbrev pub fitting : Sizes → Role → Option Form → Entry → Input → Result (Entry × Input) InfoFault
 fitting sizes role None e p = Err (fault_at p.at UnfitForm)
 fitting sizes role (Some form) e p = fitting_in sizes role form e p

@@ -15,6 +15,7 @@ abbrev pub found_at : ℕ → Option (List ℕ) → Result (List ℕ) InfoFault
 found_at at None = Err (fault_at at StrRange)
 found_at at (Some text) = Ok text
 
+-- the string at this offset of a section; at is the place of the fault where there is none
 abbrev pub string_by : List ℕ → ℕ → ℕ → Result Text InfoFault
 string_by section off at = found_at at (string_of section off) >>= λ text. Ok (Here text)
 

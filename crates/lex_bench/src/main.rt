@@ -3,8 +3,7 @@
 
 use anyhow::{Context, Result};
 use pp_tokens::{Lines, lex_file};
-use std::env;
-use std::fs;
+use std::{env, fs};
 
 /// How many tokens the lines have.
 fn token_count(lines: &Lines) -> u64 {
@@ -20,6 +19,11 @@ fn main(rt: HostRuntime) -> Result<()> {
     let bytes = fs::read(&rt, path.as_str())?;
     let lines = lex_file(rt.alloc(), bytes.as_slice())?;
     let count = token_count(&lines);
-    println!(rt; "{} bytes, {} lines, {} tokens", bytes.len(), lines.len(), count)?;
+    println!(rt;
+        "{} bytes, {} lines, {} tokens",
+        bytes.len(),
+        lines.len(),
+        count
+    )?;
     Ok(())
 }

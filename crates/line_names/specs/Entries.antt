@@ -25,6 +25,7 @@ pub record Tables : Type 0 where
   pub strs : List ℕ
   pub line_strs : List ℕ
 
+-- the sections that held ones stand for
 abbrev pub tables_of : LineTables → Tables
 tables_of t = record { lines = t.lines.now; strs = t.strs; line_strs = t.line_strs }
 
@@ -42,6 +43,7 @@ abbrev pub name_of : Name → List ℕ
 name_of (Here text) = text.now
 name_of (At section off) = unwrap_or (string_of section.now off) []
 
+-- the entry that a held one stands for
 abbrev pub entry_of : HeldEntry → Entry
 entry_of e = record { path = name_of e.path; directory = e.directory }
 
@@ -65,6 +67,7 @@ path_by section at (Text text) = Ok text
 path_by section at (Number off) = found_at at (string_of section off)
 path_by section at _ = Ok []
 
+-- the number that a value is
 abbrev pub number_in : Value → ℕ
 number_in (Number n) = n
 number_in _ = 0

@@ -29,6 +29,7 @@ abbrev pub extent_fault : ExtentFault → LineFault
 extent_fault (CutUnit at) = fault_at at Cut
 extent_fault (ReservedLength at) = fault_at at Length
 
+-- a field that is a unit's length
 abbrev pub extent_field : {A : Type 0} → Result A ExtentFault → Result A LineFault
 extent_field (Ok x) = Ok x
 extent_field (Err fault) = Err (extent_fault fault)

@@ -13,6 +13,7 @@ use Rattle.line_names.specs.declared.format.Role.TheVariants.{Path, Directory, O
 use Rattle.line_names.specs.declared.format.Content.{Content}
 use Rattle.line_names.specs.Faults.{field, fault_at}
 
+-- whether two meanings are one
 abbrev pub is_role : Role → Role → Bool
 is_role Path Path = true
 is_role Directory Directory = true
@@ -59,6 +60,7 @@ form_passes Data16 = true
 form_passes Block = true
 form_passes _ = false
 
+-- whether a content of this meaning can have the form
 abbrev pub form_fits : Role → Form → Bool
 form_fits Path form = form_names form
 form_fits Directory form = form_counts form

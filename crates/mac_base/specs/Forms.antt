@@ -15,6 +15,7 @@ abbrev pub form_in : List (ℕ × Form) → ℕ → Option Form
 form_in [] code = None
 form_in (entry ∷ entries) code = if code == entry.0 then Some entry.1 else form_in entries code
 
+-- the form of a code, where there is one
 abbrev pub form_by_code : ℕ → Option Form
 form_by_code = form_in form_codes
 

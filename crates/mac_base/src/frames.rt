@@ -29,6 +29,7 @@ impl Model for Frames {
 }
 
 impl Frames {
+    /// No frames. Takes no memory.
     pub fn new(alloc: Global) -> Frames
         ensures { result ≡ [] }
     {
@@ -61,12 +62,14 @@ impl Frames {
         Ok(())
     }
 
+    /// How many frames there are.
     pub fn len(&self) -> usize
         ensures { result ≡ length self.now }
     {
         self.items.len()
     }
 
+    /// The frames, the outermost first.
     pub fn as_slice(&self) -> &[Frame]
         ensures { result.now ≡ self.now }
     {

@@ -24,6 +24,7 @@ impl<R: Files + Drop> Model for DirShelf<R> {
 }
 
 impl<R: Files + Drop> DirShelf<R> {
+    /// The files under the working folder, with no fault so far.
     pub fn new(rt: R) -> DirShelf<R>
         ensures { result ≡ 0 }
     {

@@ -20,6 +20,7 @@ impl Model for Failures {
 }
 
 impl Failures {
+    /// A log of calls, none so far, of which those with these numbers, counted from 1 on, are to fail.
     pub fn new(failing: Vec<u64>) -> Failures
         ensures { result ≡ record { failing = failing.items; calls = 0; faults = 0 } }
     {
@@ -48,6 +49,7 @@ impl Failures {
         }
     }
 
+    /// How many calls failed so far.
     pub fn faults(&self) -> u64
         ensures { result ≡ self.now.faults }
     {

@@ -16,7 +16,6 @@ pub more : (n : ℕ) (o : Option ℕ) → AtMost n o → AtMost (suc n) (option_
 more n None most = tt
 more n (Some k) most = omega arith
 
-
 two_more : (n : ℕ) (o : Option ℕ) → AtMost n o → AtMost (suc (suc n)) (option_map (λ k. suc (suc k)) o)
 two_more n None most = tt
 two_more n (Some k) most = omega arith
@@ -27,5 +26,5 @@ closing-most q (b ∷ []) = one_of (AtMost 1) (eqb b q) (Some 1) None (omega ari
 closing-most q (b ∷ c ∷ bs) =
     let P : Option ℕ → Type 0 = AtMost (suc (suc (length bs))) in
     one_of P (eqb b q) (Some 1) _ (omega arith) (one_of P (eqb b 10) None _ tt (one_of P (eqb b 92) _ _
-        (one_of P (eqb c 10) None _ tt (two_more (length bs) (closing q bs) (closing-most q bs)))
-        (more (suc (length bs)) (closing q (c ∷ bs)) (closing-most q (c ∷ bs)))))
+    (one_of P (eqb c 10) None _ tt (two_more (length bs) (closing q bs) (closing-most q bs)))
+    (more (suc (length bs)) (closing q (c ∷ bs)) (closing-most q (c ∷ bs)))))

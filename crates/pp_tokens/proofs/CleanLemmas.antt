@@ -1,16 +1,15 @@
 -- What the cursor passes over leaves the cleaned text as it is, and what stands in front is its head.
-use Rattle.std.proofs.Common.{◌≡◌, ◌≢◌, ℕ, zero, suc, ◌+◌, ◌≤◌, ◌<◌, eqb, ltb, Bool, true, false, not, ◌&&◌, cond, List, [], ◌∷◌, length, take, drop, Option, Some, None, refl, sym, ◌∙◌, ap, subst, arith, inl, inr, ◌⊎◌}
+use Rattle.std.proofs.Common.{◌≡◌, ◌≢◌, ℕ, suc, ◌+◌, ◌≤◌, ◌<◌, eqb, ltb, Bool, true, false, ◌&&◌, cond, List, [], ◌∷◌, length, drop, Option, Some, None, refl, sym, ◌∙◌, ap, subst, arith}
 use Rattle.std.proofs.lemmas.List.{drop-drop, length-map}
-use Rattle.std.specs.Option.{unwrap_or, option_map}
-use borrow.Author.Tests.{eqb-true, eqb-false, ltb-true}
-use Rattle.pp_tokens.specs.Cleaning.{Char, bytes_of, numbered, without_cr, trigraph, trigraph_of, replaced, without_trigraphs, spliced, cleaned_from, on_line_one}
+use Rattle.std.specs.Option.{unwrap_or}
+use borrow.Author.Tests.{eqb-true, ltb-true}
+use Rattle.pp_tokens.specs.Cleaning.{Char, bytes_of, numbered, without_cr, trigraph_of, replaced, without_trigraphs, spliced, cleaned_from, on_line_one}
 use Rattle.pp_tokens.specs.Kinds.{first_is}
-use Rattle.pp_tokens.specs.Raw.{spelled, decoded, feed, splice_by, splice, IsSettled, IsPlace, first_unit, front_of, line_behind, left_of}
+use Rattle.pp_tokens.specs.Raw.{decoded, feed, splice_by, splice, IsSettled, IsPlace, front_of, line_behind, left_of, IsPlain}
 use Rattle.pp_tokens.specs.Cut.{line_of}
 use Rattle.pp_tokens.specs.Scan.{first_byte}
 use Rattle.pp_tokens.proofs.KindLemmas.{clash, to_false}
-use Rattle.pp_tokens.proofs.LongestLemmas.{and_same}
-use Rattle.pp_tokens.proofs.RawLemmas.{next_line, unspliced, unspliced-step, feed_head, feed_line}
+use Rattle.pp_tokens.proofs.RawLemmas.{next_line, unspliced, unspliced-step, decoded_plain, feed_head, feed_line}
 
 and_false : (x : Bool) → (x && false) ≡ false
 and_false true = refl
@@ -152,6 +151,7 @@ splice-some line bytes size is some = by (decoded bytes) refl
     test_by : (unit : ℕ × ℕ) (t : Bool) → decoded bytes ≡ Some unit → (eqb unit.0 92 && ltb 0 (feed (drop unit.1 bytes))) ≡ t → size ≡ cond t (unit.1 + feed (drop unit.1 bytes)) 0 → cleaned_from line bytes ≡ cleaned_from (line + 1) (drop size bytes)
     test_by unit true found test far = splice-gone line bytes unit found test ∙ ap (λ n. cleaned_from (line + 1) (drop n bytes)) (sym far)
     test_by unit false found test far = absurd (some far)
+
     by : (o : Option (ℕ × ℕ)) → decoded bytes ≡ o → cleaned_from line bytes ≡ cleaned_from (line + 1) (drop size bytes)
     by None found = absurd (some (is ∙ ap (λ o. splice_by o bytes) found))
     by (Some unit) found = test_by unit (eqb unit.0 92 && ltb 0 (feed (drop unit.1 bytes))) found refl (is ∙ ap (λ o. splice_by o bytes) found)
@@ -184,3 +184,41 @@ place-line cleans line bytes place some = by (front_of cleans bytes) refl
 
 pub place-behind : (cleans : Bool) (line : ℕ) (bytes : List ℕ) (byte width : ℕ) → IsPlace cleans line bytes → front_of cleans bytes ≡ Some (byte, width) → left_of cleans (line_behind line byte) (drop width bytes) ≡ drop 1 (left_of cleans line bytes)
 place-behind cleans line bytes byte width place is = ap (drop 1) (sym (place-some cleans line bytes (byte, width) place is))
+
+apart : (a b : ℕ) → a ≢ b → eqb a b ≡ false
+apart a b other = to_false (eqb a b) (λ is. other (eqb-true a b is))
+
+plain_front : (cleans : Bool) (a : ℕ) (bs : List ℕ) → a ≢ 63 → front_of cleans (a ∷ bs) ≡ Some (a, 1)
+plain_front true a bs other = decoded_plain a bs (apart a 63 other)
+plain_front false a bs other = refl
+
+-- a plain byte is the head, and the line stays
+pub plain-behind : (cleans : Bool) (line : ℕ) (bytes : List ℕ) → IsPlace cleans line bytes → IsPlain bytes → left_of cleans line (drop 1 bytes) ≡ drop 1 (left_of cleans line bytes)
+plain-behind cleans line [] place plain = absurd plain
+plain-behind cleans line (a ∷ []) place plain = absurd plain
+plain-behind cleans line (a ∷ b ∷ bs) place plain =
+    ap (λ x. left_of cleans (cond x (line + 1) line) (b ∷ bs)) (sym (apart a 10 plain.1))
+    ∙ ap (drop 1) (sym (place-some cleans line (a ∷ b ∷ bs) (a, 1) place (plain_front cleans a (b ∷ bs) plain.0)))
+
+no_feed_two : (b : ℕ) (bs : List ℕ) → b ≢ 13 → feed (b ∷ bs) ≢ 2
+no_feed_two b [] other is = by (eqb b 10) is
+  where
+    by : (t : Bool) → ◌≡◌ {A = ℕ} (cond t 1 0) 2 → ⊥
+    by true wrong = absurd (omega arith)
+    by false wrong = absurd (omega arith)
+no_feed_two b (c ∷ cs) other is = other (sym (return_by b c cs (eqb b 10) (eqb b 13) (eqb c 10) refl refl refl is).0)
+
+plain_settled : (b : ℕ) (bs : List ℕ) → b ≢ 13 → b ≢ 92 → b ≢ 63 → IsSettled (b ∷ bs)
+plain_settled b bs return back mark = record {
+  no_splice = ap (λ o. splice_by o (b ∷ bs)) (decoded_plain b bs (apart b 63 mark)) ∙ ap (λ x. cond (x && ltb 0 (feed bs)) (1 + feed bs) 0) (apart b 92 back);
+  no_return = no_feed_two b bs return;
+}
+
+pub plain-place : (cleans : Bool) (line : ℕ) (bytes : List ℕ) → IsPlace cleans line bytes → IsPlain bytes → IsPlace cleans line (drop 1 bytes)
+plain-place cleans line [] place plain = absurd plain
+plain-place cleans line (a ∷ []) place plain = absurd plain
+plain-place cleans line (a ∷ b ∷ bs) place plain = record {
+  settled = λ is. plain_settled b bs plain.2 plain.3 plain.4;
+  one = place.one;
+  bound = omega (arith, place.bound);
+}

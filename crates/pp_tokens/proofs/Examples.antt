@@ -1,11 +1,9 @@
 -- Worked cases of the definitions, computed.
-use Rattle.std.proofs.Common.{◌≡◌, ℕ, List, [], ◌∷◌, Bool, Option, Some, None, true, false, refl}
+use Rattle.std.proofs.Common.{◌≡◌, [], ◌∷◌, Some, None, true, false, refl}
 use lib.Chars.{codes}
-use Rattle.pp_tokens.specs.declared.token.Kind.TheVariants.{Identifier, Number, Char, Str, Punct, Header, LoneQuote, Other}
-use Rattle.pp_tokens.specs.declared.piece.What.TheVariants.{Blank, LineEnd, Comment, Word}
-use Rattle.pp_tokens.specs.declared.token.Token.{Token}
-use Rattle.pp_tokens.specs.Cleaning.{bytes_of, cleaned, on_line_one}
-use Rattle.pp_tokens.specs.Kinds.{kind_of}
+use Rattle.pp_tokens.specs.declared.token.Kind.TheVariants.{Identifier, Number, Char, Str, Punct, Header, LoneQuote}
+use Rattle.pp_tokens.specs.declared.piece.What.TheVariants.{Comment, Word}
+use Rattle.pp_tokens.specs.Cleaning.{bytes_of, cleaned}
 use Rattle.pp_tokens.specs.Cut.{longest, piece_at}
 
 plus_plus : longest (codes "+++b") ≡ Some (Punct, 2)
@@ -55,4 +53,3 @@ trigraph_splice = refl
 
 carriage_returns : bytes_of (cleaned (13 ∷ 97 ∷ 13 ∷ 13 ∷ 10 ∷ [])) ≡ 13 ∷ 97 ∷ 13 ∷ 10 ∷ []
 carriage_returns = refl
-

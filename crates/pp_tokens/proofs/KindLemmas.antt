@@ -1,13 +1,12 @@
 -- Which texts have a kind, by their first byte.
-use Rattle.std.proofs.Common.{◌≡◌, ◌≢◌, ℕ, zero, suc, ◌+◌, ◌-◌, ◌≤◌, ◌<◌, eqb, Bool, true, false, not, ◌&&◌, ◌||◌, cond, List, [], ◌∷◌, ◌++◌, length, take, drop, Option, Some, None, refl, sym, ◌∙◌, ap, subst, arith, inl, inr, ◌⊎◌}
-use Rattle.std.specs.List.{list_any, list_all, find, prefix_len}
+use Rattle.std.proofs.Common.{◌≡◌, ℕ, zero, suc, ◌+◌, eqb, Bool, true, false, not, ◌&&◌, ◌||◌, cond, List, [], ◌∷◌, Option, Some, None, refl, sym, ◌∙◌, ap, arith}
+use Rattle.std.specs.List.{list_any, list_all}
 use Rattle.std.specs.Option.{option_map}
 use borrow.Author.Tests.{eqb-true}
 use Rattle.std.proofs.lemmas.Bool.Decides.{nat_tests}
-use lib.Chars.{codes}
 use Rattle.pp_tokens.specs.declared.token.Kind.{Kind}
 use Rattle.pp_tokens.specs.declared.token.Kind.TheVariants.{Identifier, Number, Char as Constant, Str, Punct, LoneQuote, Other}
-use Rattle.pp_tokens.specs.Kinds.{begins, same, is_digit, is_letter, is_word, is_quote, is_blank, is_identifier, goes_on, is_number_rest, first_is, begins_number, is_number, is_closed, is_quoted, is_constant, is_prefixed, is_char, is_str, punctuators, is_punct, is_one, kind_of}
+use Rattle.pp_tokens.specs.Kinds.{same, is_digit, is_letter, is_quote, is_blank, is_identifier, first_is, is_number, is_char, is_str, punctuators, is_punct, is_one, kind_of}
 
 pub is_other : ℕ → Bool
 is_other b = not (is_blank b || eqb b 10)

@@ -14,3 +14,4 @@ pub mod RawLemmas
 pub mod CleanLemmas
 pub mod UniqueLemmas
 pub mod PrintLemmas
+pub mod LoneLemmas

@@ -1,18 +1,14 @@
 -- What the scanner finds is the longest token.
-use Rattle.std.proofs.Common.{◌≡◌, ◌≢◌, ℕ, zero, suc, ◌+◌, ◌-◌, ◌≤◌, ◌<◌, eqb, Bool, true, false, not, ◌&&◌, ◌||◌, cond, List, [], ◌∷◌, ◌++◌, length, take, drop, Option, Some, None, refl, sym, ◌∙◌, ap, subst, arith}
-use Rattle.std.specs.List.{list_any, list_all, find, prefix_len}
+use Rattle.std.proofs.Common.{◌≡◌, ℕ, zero, suc, ◌≤◌, ◌<◌, eqb, Bool, true, false, not, ◌&&◌, ◌||◌, cond, List, [], ◌∷◌, length, take, Option, Some, None, refl, sym, ◌∙◌, ap, subst, arith}
+use Rattle.std.specs.List.{list_all}
 use Rattle.std.specs.Option.{option_map}
 use borrow.Author.Tests.{eqb-true, eqb-false}
-use lib.Chars.{codes}
-use Rattle.pp_tokens.specs.declared.piece.What.{What}
-use Rattle.pp_tokens.specs.declared.piece.What.TheVariants.{Word}
 use Rattle.pp_tokens.specs.declared.token.Kind.{Kind}
-use Rattle.pp_tokens.specs.declared.token.Kind.TheVariants.{Identifier, Number, Char as Constant, Str, Punct, LoneQuote, Other}
-use Rattle.pp_tokens.specs.Cleaning.{Char, bytes_of}
-use Rattle.pp_tokens.specs.Kinds.{begins, same, is_digit, is_letter, is_word, is_quote, is_blank, is_identifier, goes_on, is_number_rest, first_is, begins_number, is_number, is_closed, is_quoted, is_constant, is_char, is_str, punctuators, is_punct, is_one, kind_of}
-use Rattle.pp_tokens.specs.Cut.{longest, longest_within, longer, token_or, token_at}
-use Rattle.pp_tokens.specs.Scan.{first_byte, header_by, scanned, number_rest, closing, quoted_length, quoted_kind, quote_or, punct_or, punctuator_length, word_token, word_before, word_length, word_or, prefixed_length, is_prefix, is_prefix_letter}
-use Rattle.pp_tokens.proofs.KindLemmas.{kind_by, kind-from, kind_same, clash, to_false, differs, differs_from, digit_no_letter, letter_no_digit, no_punct, no_char, no_str, is_that, that_itself, that_same, that_more, that_more_zero}
+use Rattle.pp_tokens.specs.declared.token.Kind.TheVariants.{Number, Char as Constant, Str, LoneQuote}
+use Rattle.pp_tokens.specs.Kinds.{same, is_digit, is_letter, is_word, is_quote, is_blank, goes_on, is_number_rest, first_is, is_closed, is_quoted, is_constant, is_punct, is_one, kind_of}
+use Rattle.pp_tokens.specs.Cut.{longest, longest_within, longer}
+use Rattle.pp_tokens.specs.Scan.{number_rest, closing, quoted_length, quote_or}
+use Rattle.pp_tokens.proofs.KindLemmas.{kind_by, kind-from, kind_same, to_false, differs, digit_no_letter, no_punct, no_char, no_str, is_that, that_itself, that_same, that_more}
 use Rattle.pp_tokens.proofs.Bounds.{AtMost, closing-most}
 
 within_none : (bytes : List ℕ) (n : ℕ) (o : Option Kind) → kind_of (take (suc n) bytes) ≡ o → o ≡ None → longest_within bytes (suc n) ≡ longest_within bytes n
@@ -80,14 +76,14 @@ nothing b bs i some within =
 digit_kind : (b : ℕ) (rest : List ℕ) (n : Bool) → is_digit b ≡ true → is_number_rest b rest ≡ n → kind_of (b ∷ rest) ≡ long_kind false n false false false (b ∷ rest)
 digit_kind b rest n digit goes =
     kind-from (b ∷ rest) false n false false false _ _
-        (ap (λ x. x && list_all is_word rest) (digit_no_letter b digit))
-        (ap (λ x. (x || (eqb b 46 && first_is is_digit rest)) && is_number_rest b rest) digit ∙ goes)
-        (no_char is_digit b rest digit refl refl refl refl) (no_str is_digit b rest digit refl refl refl refl) (no_punct is_digit b rest digit refl) refl refl
+    (ap (λ x. x && list_all is_word rest) (digit_no_letter b digit))
+    (ap (λ x. (x || (eqb b 46 && first_is is_digit rest)) && is_number_rest b rest) digit ∙ goes)
+    (no_char is_digit b rest digit refl refl refl refl) (no_str is_digit b rest digit refl refl refl refl) (no_punct is_digit b rest digit refl) refl refl
 
 pub digit_longest : (b : ℕ) (bs : List ℕ) → is_digit b ≡ true → longest (b ∷ bs) ≡ Some (Number, suc (number_rest b bs))
 digit_longest b bs digit =
     longest_cons b bs Number (number_rest b bs) (rest_true b bs).0 (digit_kind b (take (number_rest b bs) bs) true digit (rest_true b bs).1)
-        (λ i more most. digit_kind b (take i bs) false digit (rest_false b bs i more most) ∙ nothing b bs i (omega arith) most)
+    (λ i more most. digit_kind b (take i bs) false digit (rest_false b bs i more most) ∙ nothing b bs i (omega arith) most)
 
 pub first_taken : (test : ℕ → Bool) (bs : List ℕ) (i : ℕ) → 0 < i → first_is test (take i bs) ≡ first_is test bs
 first_taken test bs zero some = absurd (omega arith)
@@ -123,8 +119,8 @@ pub dot_longest : (bs : List ℕ) → first_is is_digit bs ≡ true → longest 
 dot_longest bs digit =
     let some : 0 < number_rest 46 bs = goes_first bs digit in
     longest_cons 46 bs Number (number_rest 46 bs) (rest_true 46 bs).0
-        (dot_kind (take (number_rest 46 bs) bs) true (first_taken is_digit bs (number_rest 46 bs) some ∙ digit) (rest_true 46 bs).1)
-        (λ i more most. dot_kind (take i bs) false (first_taken is_digit bs i (omega arith) ∙ digit) (rest_false 46 bs i more most) ∙ nothing 46 bs i (omega arith) most)
+    (dot_kind (take (number_rest 46 bs) bs) true (first_taken is_digit bs (number_rest 46 bs) some ∙ digit) (rest_true 46 bs).1)
+    (λ i more most. dot_kind (take i bs) false (first_taken is_digit bs i (omega arith) ∙ digit) (rest_false 46 bs i more most) ∙ nothing 46 bs i (omega arith) most)
 
 -- quoted texts
 
@@ -234,23 +230,23 @@ kind_34 rest x is = kind-from (34 ∷ rest) false false false x false _ _ refl r
 pub longest_39 : (bs : List ℕ) (o : Option ℕ) → quoted_length 39 bs ≡ o → longest (39 ∷ bs) ≡ Some (quote_or 39 o)
 longest_39 bs None is =
     longest_cons 39 bs LoneQuote 0 (omega arith) refl
-        (λ i more most. kind_39 (take i bs) false (char_that bs i most ∙ ap (λ o. is_that o (suc i)) is) ∙ nothing 39 bs i more most)
+    (λ i more most. kind_39 (take i bs) false (char_that bs i most ∙ ap (λ o. is_that o (suc i)) is) ∙ nothing 39 bs i more most)
 longest_39 bs (Some n) is =
     let shape = quoted_some 39 n bs is in
     let k = shape.0 in
     let found : quoted_length 39 bs ≡ Some (suc k) = is ∙ ap (λ x. Some x) shape.1 in
     longest_cons 39 bs Constant k shape.2 (kind_39 (take k bs) true (char_that bs k shape.2 ∙ ap (λ o. is_that o (suc k)) found ∙ that_itself k))
-        (λ i more most. kind_39 (take i bs) false (char_that bs i most ∙ ap (λ o. is_that o (suc i)) found ∙ past k i more) ∙ nothing 39 bs i (omega arith) most)
+    (λ i more most. kind_39 (take i bs) false (char_that bs i most ∙ ap (λ o. is_that o (suc i)) found ∙ past k i more) ∙ nothing 39 bs i (omega arith) most)
     ∙ ap (λ x. Some (Constant, x)) (sym shape.1)
 
 pub longest_34 : (bs : List ℕ) (o : Option ℕ) → quoted_length 34 bs ≡ o → longest (34 ∷ bs) ≡ Some (quote_or 34 o)
 longest_34 bs None is =
     longest_cons 34 bs LoneQuote 0 (omega arith) refl
-        (λ i more most. kind_34 (take i bs) false (str_that bs i most ∙ ap (λ o. is_that o (suc i)) is) ∙ nothing 34 bs i more most)
+    (λ i more most. kind_34 (take i bs) false (str_that bs i most ∙ ap (λ o. is_that o (suc i)) is) ∙ nothing 34 bs i more most)
 longest_34 bs (Some n) is =
     let shape = quoted_some 34 n bs is in
     let k = shape.0 in
     let found : quoted_length 34 bs ≡ Some (suc k) = is ∙ ap (λ x. Some x) shape.1 in
     longest_cons 34 bs Str k shape.2 (kind_34 (take k bs) true (str_that bs k shape.2 ∙ ap (λ o. is_that o (suc k)) found ∙ that_itself k))
-        (λ i more most. kind_34 (take i bs) false (str_that bs i most ∙ ap (λ o. is_that o (suc i)) found ∙ past k i more) ∙ nothing 34 bs i (omega arith) most)
+    (λ i more most. kind_34 (take i bs) false (str_that bs i most ∙ ap (λ o. is_that o (suc i)) found ∙ past k i more) ∙ nothing 34 bs i (omega arith) most)
     ∙ ap (λ x. Some (Str, x)) (sym shape.1)

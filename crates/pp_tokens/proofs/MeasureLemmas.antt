@@ -1,5 +1,5 @@
 -- An element in front is passed over whole.
-use Rattle.std.proofs.Common.{◌≡◌, ◌≢◌, ℕ, suc, ◌+◌, ◌==◌, Bool, true, false, not, ◌&&◌, ◌||◌, cond, eqb, List, [], ◌∷◌, drop, Option, Some, None, refl, sym, ◌∙◌, ap, length, ◌≤◌, arith}
+use Rattle.std.proofs.Common.{◌≡◌, ℕ, suc, ◌+◌, Bool, true, false, not, ◌&&◌, ◌||◌, cond, eqb, List, [], ◌∷◌, drop, Option, Some, None, refl, sym, ◌∙◌, ap, length, ◌≤◌, arith}
 use Rattle.std.specs.Option.{option_map}
 use Rattle.std.proofs.lemmas.List.{drop-map, length-map}
 use Rattle.pp_tokens.specs.Cleaning.{Char, bytes_of}
@@ -72,7 +72,7 @@ pub closing-counted : (q k m : ℕ) (cs : List Char) (whole : Option ℕ) → m 
 closing-counted q k m cs whole size some is =
     let far : drop (element q (bytes_of cs)) (bytes_of cs) ≡ bytes_of (drop m cs) = ap (λ n. drop n (bytes_of cs)) (sym size) ∙ drop-map (λ (c : Char). c.byte) m cs in
     let step : option_map (λ n. m + n) (closing q (bytes_of (drop m cs))) ≡ closing q (bytes_of cs) =
-        ap (λ xs. option_map (λ n. m + n) (closing q xs)) (sym far) ∙ ap (λ e. option_map (λ n. e + n) (closing q (drop (element q (bytes_of cs)) (bytes_of cs)))) size ∙ closing-element q (bytes_of cs) (λ none. some (size ∙ none)) in
+    ap (λ xs. option_map (λ n. m + n) (closing q xs)) (sym far) ∙ ap (λ e. option_map (λ n. e + n) (closing q (drop (element q (bytes_of cs)) (bytes_of cs)))) size ∙ closing-element q (bytes_of cs) (λ none. some (size ∙ none)) in
     counted k m (closing q (bytes_of (drop m cs))) (closing q (bytes_of cs)) whole step is
 
 close_cases : (t : Bool) (o : Option ℕ) → false ≡ t → option_map (λ n. 1 + n) o ≡ cond t (Some 2) (option_map suc o)

@@ -1,5 +1,5 @@
 -- The first byte 0 and its line.
-use Rattle.std.proofs.Common.{◌≡◌, ℕ, zero, suc, ◌+◌, ◌<◌, eqb, Bool, true, false, cond, List, [], ◌∷◌, ◌++◌, length, get_or, take, Option, Some, None, refl, sym, ◌∙◌, ap, arith}
+use Rattle.std.proofs.Common.{◌≡◌, ℕ, zero, suc, ◌+◌, ◌<◌, eqb, Bool, true, false, cond, List, [], ◌∷◌, ◌++◌, length, get_or, take, Some, None, refl, ◌∙◌, ap, arith}
 use Rattle.pp_tokens.specs.Cleaning.{on_line_one, numbered, first_nul}
 use Rattle.pp_tokens.specs.Scan.{line_feeds}
 

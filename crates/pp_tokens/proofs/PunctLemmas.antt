@@ -1,20 +1,14 @@
 -- The longest punctuator stands first in the table, and other bytes stand alone.
-use Rattle.std.proofs.Common.{◌≡◌, ◌≢◌, ℕ, zero, suc, ◌+◌, ◌-◌, ◌≤◌, ◌<◌, eqb, Bool, true, false, not, ◌&&◌, ◌||◌, cond, List, [], ◌∷◌, ◌++◌, length, take, drop, Option, Some, None, refl, sym, ◌∙◌, ap, subst, arith, eq-eqb}
-use Rattle.std.specs.List.{list_any, list_all, find, prefix_len}
+use Rattle.std.proofs.Common.{◌≡◌, ℕ, zero, suc, ◌≤◌, ◌<◌, eqb, Bool, true, false, not, ◌&&◌, ◌||◌, cond, List, [], ◌∷◌, length, take, Option, Some, None, refl, sym, ◌∙◌, ap, subst, arith, eq-eqb}
+use Rattle.std.specs.List.{list_any, list_all, find}
 use Rattle.std.specs.Option.{option_map}
-use borrow.Author.Tests.{eqb-true, eqb-false}
-use lib.Chars.{codes}
-use Rattle.pp_tokens.specs.declared.piece.What.{What}
-use Rattle.pp_tokens.specs.declared.piece.What.TheVariants.{Word}
-use Rattle.pp_tokens.specs.declared.token.Kind.{Kind}
-use Rattle.pp_tokens.specs.declared.token.Kind.TheVariants.{Identifier, Number, Char as Constant, Str, Punct, LoneQuote, Other}
-use Rattle.pp_tokens.specs.Cleaning.{Char, bytes_of}
-use Rattle.pp_tokens.specs.Kinds.{begins, same, is_digit, is_letter, is_word, is_quote, is_blank, is_identifier, goes_on, is_number_rest, first_is, begins_number, is_number, is_closed, is_quoted, is_constant, is_char, is_str, punctuators, is_punct, is_one, kind_of}
-use Rattle.pp_tokens.specs.Cut.{longest, longest_within, longer, token_or, token_at}
-use Rattle.pp_tokens.specs.Scan.{first_byte, header_by, scanned, number_rest, closing, quoted_length, quoted_kind, quote_or, punct_or, punctuator_length, word_token, word_before, word_length, word_or, prefixed_length, is_prefix, is_prefix_letter}
-use Rattle.pp_tokens.proofs.KindLemmas.{kind_by, kind-from, kind_same, clash, to_false, differs, differs_from, digit_no_letter, letter_no_digit, no_punct, no_char, no_str, is_that, that_itself, that_same, that_more, that_more_zero}
-use Rattle.pp_tokens.proofs.Bounds.{AtMost, closing-most}
-use Rattle.pp_tokens.proofs.LongestLemmas.{longest_cons, long_kind, nothing, not_one, first_taken, char_that, str_that, and_same, or_same, or_true, quoted_some, past}
+use borrow.Author.Tests.{eqb-true}
+use Rattle.pp_tokens.specs.declared.token.Kind.TheVariants.{Punct, Other}
+use Rattle.pp_tokens.specs.Kinds.{begins, same, is_digit, is_letter, is_word, is_quote, is_blank, is_number_rest, first_is, begins_number, punctuators, is_punct, is_one, kind_of}
+use Rattle.pp_tokens.specs.Cut.{longest}
+use Rattle.pp_tokens.specs.Scan.{punct_or, punctuator_length}
+use Rattle.pp_tokens.proofs.KindLemmas.{kind_by, kind-from, clash, to_false, no_char, no_str}
+use Rattle.pp_tokens.proofs.LongestLemmas.{longest_cons, not_one, first_taken, or_true}
 
 begins_more : (b c : ℕ) (p bytes : List ℕ) (m : ℕ) (x : Bool) → eqb b c ≡ x → (x && same (take m bytes) p) ≡ true → (same (take m bytes) p ≡ true → (begins p bytes ≡ true) × (length p ≡ m)) →
     ((eqb c b && begins p bytes) ≡ true) × (suc (length p) ≡ suc m)
@@ -100,11 +94,11 @@ later_none p bytes [] m front less within all = refl
 later_none p bytes (q ∷ qs) m front less within all =
     let parts = both (not (begins p q)) _ all in
     neither _ _
-        (to_false _ (λ is.
-            let found = same_begins q bytes m within is in
-            let bound : length p ≤ length q = omega (arith, found.1) in
-            clash (not (begins p q)) parts.0 (ap not (both_begin p q bytes front found.0 bound))))
-        (later_none p bytes qs m front less within parts.1)
+    (to_false _ (λ is.
+    let found = same_begins q bytes m within is in
+    let bound : length p ≤ length q = omega (arith, found.1) in
+    clash (not (begins p q)) parts.0 (ap not (both_begin p q bytes front found.0 bound))))
+    (later_none p bytes qs m front less within parts.1)
 
 found_by : (q bytes p : List ℕ) (qs : List (List ℕ)) (x : Bool) → begins q bytes ≡ x → cond x (Some q) (find (λ r. begins r bytes) qs) ≡ Some p → list_all (λ r. not (begins q r)) qs ≡ true →
     (find (λ r. begins r bytes) qs ≡ Some p → Found qs bytes p) → Found (q ∷ qs) bytes p
@@ -161,9 +155,9 @@ unfolding plain
 other_kind b bs i p q o letter number quote punct one other =
     let passes : plain b ≡ true = ap (λ x. not (x || is_quote b)) letter ∙ ap not quote in
     kind-from (b ∷ take i bs) false false false false p q o
-        (ap (λ x. x && list_all is_word (take i bs)) letter)
-        (ap (λ x. x && is_number_rest b (take i bs)) (begins_taken b bs i number))
-        (no_char plain b (take i bs) passes refl refl refl refl) (no_str plain b (take i bs) passes refl refl refl refl) punct one other
+    (ap (λ x. x && list_all is_word (take i bs)) letter)
+    (ap (λ x. x && is_number_rest b (take i bs)) (begins_taken b bs i number))
+    (no_char plain b (take i bs) passes refl refl refl refl) (no_str plain b (take i bs) passes refl refl refl refl) punct one other
 
 other_none : (b : ℕ) (bs : List ℕ) (i : ℕ) → is_letter b ≡ false → begins_number b bs ≡ false → is_quote b ≡ false → is_punct (b ∷ take i bs) ≡ false → 0 < i → i ≤ length bs → kind_of (b ∷ take i bs) ≡ None
 other_none b bs i letter number quote punct some within =
@@ -174,15 +168,15 @@ punct_by : (b : ℕ) (bs : List ℕ) (o : Option (List ℕ)) → is_letter b ≡
 unfolding ordered
 punct_by b bs None letter number quote not_line_feed not_blank is =
     longest_cons b bs Other 0 (omega arith)
-        (other_kind b bs 0 false false true letter number quote (any_none punctuators (b ∷ bs) 1 (omega arith) is) quote (ap (λ x. not (x || eqb b 10)) not_blank ∙ ap not not_line_feed))
-        (λ i more most. other_none b bs i letter number quote (any_none punctuators (b ∷ bs) (suc i) (omega arith) is) more most)
+    (other_kind b bs 0 false false true letter number quote (any_none punctuators (b ∷ bs) 1 (omega arith) is) quote (ap (λ x. not (x || eqb b 10)) not_blank ∙ ap not not_line_feed))
+    (λ i more most. other_none b bs i letter number quote (any_none punctuators (b ∷ bs) (suc i) (omega arith) is) more most)
 punct_by b bs (Some []) letter number quote not_line_feed not_blank is = absurd (clash false (filled punctuators (b ∷ bs) [] refl is) refl)
 punct_by b bs (Some (c ∷ p)) letter number quote not_line_feed not_blank is =
     let at = found punctuators (b ∷ bs) (c ∷ p) refl is in
     let fits : suc (length p) ≤ suc (length bs) = (begins_same (c ∷ p) (b ∷ bs) at.front).0 in
     longest_cons b bs Punct (length p) (omega arith)
-        (other_kind b bs (length p) true _ _ letter number quote at.there refl refl)
-        (λ i more most. other_none b bs i letter number quote (at.longer (suc i) (omega arith) (omega arith)) (omega arith) most)
+    (other_kind b bs (length p) true _ _ letter number quote at.there refl refl)
+    (λ i more most. other_none b bs i letter number quote (at.longer (suc i) (omega arith) (omega arith)) (omega arith) most)
 
 pub punct_longest : (b : ℕ) (bs : List ℕ) → is_letter b ≡ false → begins_number b bs ≡ false → is_quote b ≡ false → eqb b 10 ≡ false → is_blank b ≡ false → longest (b ∷ bs) ≡ Some (punct_or (punctuator_length (b ∷ bs)))
 punct_longest b bs letter number quote not_line_feed not_blank = punct_by b bs (find (λ p. begins p (b ∷ bs)) punctuators) letter number quote not_line_feed not_blank refl

@@ -1,10 +1,10 @@
 -- What the cursor finds in front is the head of what phases 1 and 2 leave.
-use Rattle.std.proofs.Common.{◌≡◌, ◌≢◌, ℕ, zero, suc, ◌+◌, ◌≤◌, ◌<◌, eqb, ltb, Bool, true, false, not, ◌&&◌, ◌||◌, cond, List, [], ◌∷◌, length, take, drop, Option, Some, None, refl, sym, ◌∙◌, ap, subst, arith}
+use Rattle.std.proofs.Common.{◌≡◌, ◌≢◌, ℕ, ◌+◌, eqb, ltb, Bool, true, false, ◌&&◌, cond, List, [], ◌∷◌, drop, Option, Some, None, refl, sym, ◌∙◌, ap, subst, arith}
 use Rattle.std.specs.Option.{unwrap_or}
-use borrow.Author.Tests.{eqb-true, eqb-false}
-use Rattle.pp_tokens.specs.Cleaning.{Char, bytes_of, numbered, without_cr, trigraph, trigraph_of, replaced, without_trigraphs, spliced, cleaned_from, on_line_one}
+use borrow.Author.Tests.{eqb-true}
+use Rattle.pp_tokens.specs.Cleaning.{Char, bytes_of, numbered, without_cr, trigraph, replaced, without_trigraphs}
 use Rattle.pp_tokens.specs.Kinds.{first_is}
-use Rattle.pp_tokens.specs.Raw.{spelled, decoded, feed, splice_by, splice, IsSettled, left_of}
+use Rattle.pp_tokens.specs.Raw.{spelled, decoded, feed}
 use Rattle.pp_tokens.proofs.KindLemmas.{clash, to_false}
 
 -- the line behind a byte
@@ -117,7 +117,7 @@ question line [] unit is = subst (Heads line (63 ∷ [])) (same_unit (63, 1) uni
 question line (x ∷ []) unit is = subst (Heads line (63 ∷ x ∷ [])) (same_unit (63, 1) unit is) refl
 question line (x ∷ t ∷ ts) unit is = subst (Heads line (63 ∷ x ∷ t ∷ ts)) (same_unit (spelled 63 (cond (eqb x 63) (trigraph t) None)) unit is) (second_by line x t ts (eqb x 63) refl)
 
-decoded_plain : (a : ℕ) (bs : List ℕ) → eqb a 63 ≡ false → decoded (a ∷ bs) ≡ Some (a, 1)
+pub decoded_plain : (a : ℕ) (bs : List ℕ) → eqb a 63 ≡ false → decoded (a ∷ bs) ≡ Some (a, 1)
 decoded_plain a [] other = refl
 decoded_plain a (b ∷ []) other = refl
 decoded_plain a (b ∷ c ∷ cs) other = ap (λ x. Some (spelled a (cond (x && eqb b 63) (trigraph c) None))) other

@@ -1,15 +1,14 @@
 -- Pieces are put together to a cut of the whole text.
-use Rattle.std.proofs.Common.{◌≡◌, ℕ, zero, suc, ◌+◌, ◌-◌, ◌≤◌, ◌<◌, eqb, Bool, true, false, cond, List, [], ◌∷◌, ◌++◌, length, map, take, drop, Option, Some, None, Ok, Err, refl, sym, ◌∙◌, ap, subst, arith, append_assoc, length-drop}
+use Rattle.std.proofs.Common.{◌≡◌, ℕ, zero, suc, ◌+◌, ◌-◌, ◌≤◌, ◌<◌, eqb, Bool, true, false, cond, List, [], ◌∷◌, ◌++◌, length, take, drop, Option, Some, None, Err, refl, sym, ◌∙◌, ap, subst, arith, append_assoc, length-drop}
 use Rattle.std.proofs.lemmas.List.{take-append-drop, length-take-le, length-map}
 use Rattle.std.specs.Option.{option_map, is_some}
 use lib.Chars.{codes}
 use Rattle.pp_tokens.specs.declared.token.Kind.{Kind}
-use Rattle.pp_tokens.specs.declared.token.Kind.TheVariants.{Header}
 use Rattle.pp_tokens.specs.declared.piece.What.{What}
 use Rattle.pp_tokens.specs.declared.piece.What.TheVariants.{Blank, LineEnd, Comment, Word}
 use Rattle.pp_tokens.specs.Cleaning.{Char, bytes_of}
 use Rattle.pp_tokens.specs.Kinds.{begins, is_blank, kind_of}
-use Rattle.pp_tokens.specs.Cut.{Page, Piece, put, put_all, chars_of, piece_at, header_may_stand, header_name, up_to, up_to_close, line_rest, longest, longest_within, longer, token_or, token_at, AreCut, IsCut, IsOpen, line_of, Makes, LeavesOpen}
+use Rattle.pp_tokens.specs.Cut.{Page, Piece, put, put_all, chars_of, piece_at, header_may_stand, header_name, up_to, up_to_close, line_rest, longest, longest_within, longer, token_or, token_at, AreCut, IsCut, IsOpen, Makes, LeavesOpen}
 use Rattle.pp_tokens.specs.Scan.{first_byte, Takes, Steps, Scans, scanned}
 use Rattle.pp_tokens.specs.declared.fault.LexFault.{LexFault}
 use Rattle.pp_tokens.specs.declared.fault.LexFault.TheVariants.{NulByte, OpenComment, NoMemory}
@@ -52,6 +51,7 @@ longest-most bytes (suc n) = choose (kind_of (take (suc n) bytes)) (longest_with
     wider : (o : Option (Kind × ℕ)) → Within n o → Within (suc n) o
     wider None inner = tt
     wider (Some found) inner = (inner.0, omega (arith, inner.1))
+
     choose : (k : Option Kind) (o : Option (Kind × ℕ)) → Within n o → Within (suc n) (longer k (suc n) o)
     choose (Some k) o inner = (omega arith, omega arith)
     choose None o inner = wider o inner
@@ -99,8 +99,8 @@ piece-within lines header (b ∷ bs) =
     (one_of (Within (suc (length bs))) (begins (codes "//") (b ∷ bs)) _ _ (omega arith, omega (arith, line_rest-most bs))
     (one_of (Within (suc (length bs))) (begins (codes "/*") (b ∷ bs)) _ _ (block-within bs)
     (token_or-within (cond header (header_name (b ∷ bs)) None) (b ∷ bs)
-      (one_of Some_bytes header (header_name (b ∷ bs)) None (header-some (b ∷ bs)) tt)
-      (one_of (AtMost (suc (length bs))) header (header_name (b ∷ bs)) None (header-most (b ∷ bs)) tt)))))
+    (one_of Some_bytes header (header_name (b ∷ bs)) None (header-some (b ∷ bs)) tt)
+    (one_of (AtMost (suc (length bs))) header (header_name (b ∷ bs)) None (header-most (b ∷ bs)) tt)))))
 
 pub piece-fits : (lines header : Bool) (cs : List Char) (what : What) (n : ℕ) → piece_at lines header (bytes_of cs) ≡ Some (what, n) → (1 ≤ n) × (n ≤ length cs)
 piece-fits lines header cs what n is =
@@ -113,7 +113,7 @@ cut-more : (lines : Bool) (page : Page) (chars : List Char) (now : Page) (left :
 cut-more lines page chars now left what n pieces rest stands made behind cut =
     let fits = piece-fits lines (header_may_stand page.tokens) chars what n stands in
     let whole : chars ≡ take n chars ++ chars_of pieces ++ rest =
-        sym (take-append-drop n chars) ∙ ap (λ cs. take n chars ++ cs) (sym behind ∙ cut.whole) ∙ sym (append_assoc (take n chars) (chars_of pieces) rest) in
+    sym (take-append-drop n chars) ∙ ap (λ cs. take n chars ++ cs) (sym behind ∙ cut.whole) ∙ sym (append_assoc (take n chars) (chars_of pieces) rest) in
     record {
       whole = whole;
       each = (
@@ -174,8 +174,8 @@ map_none (Some n) is = cc
 open_at : (lines header : Bool) (b : ℕ) (bs : List ℕ) → piece_at lines header (b ∷ bs) ≡ None → IsOpen (b ∷ bs)
 open_at lines header b bs is =
     let found = none_by (eqb b 10) (is_blank b) (begins (codes "//") (b ∷ bs)) (begins (codes "/*") (b ∷ bs)) (cond lines LineEnd Blank, 1) (Blank, 1) (Comment, suc (line_rest bs))
-        (option_map (λ n. (Comment, 2 + n)) (up_to_close (drop 1 bs))) (token_at header (b ∷ bs)) is
-        (λ not_line_feed not_blank none. some_token _ (b ∷ bs) (scanned (b ∷ bs)) (scanned-longest b bs not_line_feed not_blank) none) in
+    (option_map (λ n. (Comment, 2 + n)) (up_to_close (drop 1 bs))) (token_at header (b ∷ bs)) is
+    (λ not_line_feed not_blank none. some_token _ (b ∷ bs) (scanned (b ∷ bs)) (scanned-longest b bs not_line_feed not_blank) none) in
     (found.0, map_none (up_to_close (drop 1 bs)) found.1)
 
 open_here : (lines header : Bool) (cs : List Char) → is_some (first_byte cs) ≡ true → piece_at lines header (bytes_of cs) ≡ None → IsOpen (bytes_of cs)

@@ -1,11 +1,10 @@
 -- The table of punctuators, filled up with zeros, is searched as the table itself.
-use Rattle.std.proofs.Common.{◌≡◌, ℕ, zero, suc, ◌+◌, ◌≤◌, ◌<◌, Bool, true, false, not, ◌&&◌, ◌||◌, cond, eqb, List, [], ◌∷◌, length, get_or, drop, Option, Some, None, refl, sym, ◌∙◌, ap, arith}
+use Rattle.std.proofs.Common.{◌≡◌, ℕ, zero, suc, ◌+◌, ◌<◌, Bool, true, false, not, ◌&&◌, cond, eqb, List, [], ◌∷◌, length, get_or, drop, Option, Some, refl, sym, ◌∙◌, ap}
 use Rattle.std.proofs.lemmas.List.{drop_more}
 use Rattle.std.specs.List.{find, list_all}
 use Rattle.std.specs.Option.{option_map}
 use Rattle.pp_tokens.specs.declared.punctuators.TheConstants.{PUNCTUATORS}
 use Rattle.pp_tokens.specs.Kinds.{begins, punctuators}
-use Rattle.pp_tokens.specs.Kinds.{first_is}
 use Rattle.pp_tokens.specs.Scan.{byte_or_zero, padded, fits, unpadded_length, punctuator_length}
 
 pub find-here : {X : Type 0} (test : X → Bool) (xs : List X) (i : ℕ) (d : X) → i < length xs → test (get_or xs i d) ≡ true → find test (drop i xs) ≡ Some (get_or xs i d)

@@ -1,8 +1,7 @@
 -- The scanner finds the longest token.
-use Rattle.std.proofs.Common.{◌≡◌, ℕ, suc, ◌+◌, eqb, Bool, true, false, cond, ◌||◌, ◌&&◌, not, List, [], ◌∷◌, drop, Option, Some, None, refl, sym, ◌∙◌, ap, subst}
+use Rattle.std.proofs.Common.{◌≡◌, ℕ, suc, eqb, Bool, true, false, cond, ◌||◌, ◌&&◌, List, [], ◌∷◌, drop, Option, Some, None, refl, sym, ◌∙◌, ap, subst}
 use Rattle.std.specs.Option.{option_map}
 use borrow.Author.Tests.{eqb-true}
-use Rattle.pp_tokens.specs.declared.piece.What.{What}
 use Rattle.pp_tokens.specs.declared.piece.What.TheVariants.{Word}
 use Rattle.pp_tokens.specs.declared.token.Kind.{Kind}
 use Rattle.pp_tokens.specs.declared.token.Kind.TheVariants.{Number}

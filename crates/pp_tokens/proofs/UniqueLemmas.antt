@@ -1,18 +1,16 @@
 -- A text is cut in one way.
-use Rattle.std.proofs.Common.{◌≡◌, ℕ, suc, ◌+◌, eqb, Bool, true, false, cond, ◌&&◌, List, [], ◌∷◌, ◌++◌, length, take, drop, Option, Some, None, Result, Ok, Err, refl, sym, ◌∙◌, ap, subst, arith, append_assoc}
+use Rattle.std.proofs.Common.{◌≡◌, ℕ, ◌+◌, eqb, Bool, true, false, ◌&&◌, List, [], ◌∷◌, ◌++◌, length, take, drop, Option, Some, None, Ok, Err, refl, sym, ◌∙◌, ap, subst, append_assoc}
 use Rattle.std.proofs.lemmas.List.{take_at, drop_at}
 use Rattle.std.specs.Option.{unwrap_or, option_map}
 use borrow.Author.Tests.{eqb-true}
-use lib.Chars.{codes}
 use Rattle.pp_tokens.specs.declared.fault.LexFault.{LexFault}
 use Rattle.pp_tokens.specs.declared.fault.LexFault.TheVariants.{NulByte, OpenComment, NoMemory}
 use Rattle.pp_tokens.specs.declared.line.Line.{Line}
 use Rattle.pp_tokens.specs.declared.token.Token.{Token}
 use Rattle.pp_tokens.specs.declared.piece.What.{What}
-use Rattle.pp_tokens.specs.declared.piece.What.TheVariants.{Blank, Comment}
-use Rattle.pp_tokens.specs.Cleaning.{Char, bytes_of, numbered, cleaned, on_line_one, first_nul}
-use Rattle.pp_tokens.specs.Kinds.{begins, is_blank}
-use Rattle.pp_tokens.specs.Cut.{Page, Piece, no_page, put, put_all, lines_of, chars_of, piece_at, header_may_stand, up_to_close, token_at, AreCut, IsCut, IsOpen, line_of, Makes, LeavesOpen, IsFault, LexesFile, LexesText}
+use Rattle.pp_tokens.specs.declared.piece.What.TheVariants.{Comment}
+use Rattle.pp_tokens.specs.Cleaning.{Char, bytes_of, cleaned, on_line_one}
+use Rattle.pp_tokens.specs.Cut.{Page, Piece, no_page, put, put_all, lines_of, chars_of, piece_at, header_may_stand, up_to_close, IsCut, IsOpen, line_of, Makes, LeavesOpen, IsFault}
 use Rattle.pp_tokens.specs.Laws.{CutIsUnique, IsAnswer, FileHasOneAnswer, TextHasOneAnswer}
 
 -- the first piece of a cut, and the cut behind it

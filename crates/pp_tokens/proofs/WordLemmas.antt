@@ -1,20 +1,15 @@
 -- The longest token that begins with a letter.
-use Rattle.std.proofs.Common.{◌≡◌, ◌≢◌, ℕ, zero, suc, ◌+◌, ◌-◌, ◌≤◌, ◌<◌, eqb, Bool, true, false, not, ◌&&◌, ◌||◌, cond, List, [], ◌∷◌, ◌++◌, length, take, drop, Option, Some, None, refl, sym, ◌∙◌, ap, subst, arith, eq-eqb}
-use Rattle.std.specs.List.{list_any, list_all, find, prefix_len}
-use Rattle.std.specs.Option.{option_map}
-use borrow.Author.Tests.{eqb-true, eqb-false}
+use Rattle.std.proofs.Common.{◌≡◌, ℕ, zero, suc, ◌+◌, ◌-◌, ◌≤◌, ◌<◌, eqb, Bool, true, false, not, ◌&&◌, ◌||◌, cond, List, [], ◌∷◌, length, take, drop, Option, Some, None, refl, sym, ◌∙◌, ap, subst, arith, eq-eqb}
+use Rattle.std.specs.List.{list_all, prefix_len}
+use borrow.Author.Tests.{eqb-true}
 use lib.Chars.{codes}
-use Rattle.pp_tokens.specs.declared.piece.What.{What}
-use Rattle.pp_tokens.specs.declared.piece.What.TheVariants.{Word}
 use Rattle.pp_tokens.specs.declared.token.Kind.{Kind}
-use Rattle.pp_tokens.specs.declared.token.Kind.TheVariants.{Identifier, Number, Char as Constant, Str, Punct, LoneQuote, Other}
-use Rattle.pp_tokens.specs.Cleaning.{Char, bytes_of}
-use Rattle.pp_tokens.specs.Kinds.{begins, same, is_digit, is_letter, is_word, is_quote, is_blank, is_identifier, goes_on, is_number_rest, first_is, begins_number, is_number, is_closed, is_quoted, is_constant, is_char, is_str, punctuators, is_punct, is_one, kind_of}
-use Rattle.pp_tokens.specs.Cut.{longest, longest_within, longer, token_or, token_at}
-use Rattle.pp_tokens.specs.Scan.{first_byte, header_by, scanned, number_rest, closing, quoted_length, quoted_kind, quote_or, punct_or, punctuator_length, word_token, word_before, word_length, word_or, prefixed_length, is_prefix, is_prefix_letter}
-use Rattle.pp_tokens.proofs.KindLemmas.{kind_by, kind-from, kind_same, clash, to_false, differs, differs_from, digit_no_letter, letter_no_digit, no_punct, no_char, no_str, is_that, that_itself, that_same, that_more, that_more_zero}
-use Rattle.pp_tokens.proofs.Bounds.{AtMost, closing-most}
-use Rattle.pp_tokens.proofs.LongestLemmas.{longest_cons, long_kind, nothing, not_one, first_taken, char_that, str_that, and_same, or_same, or_true, quoted_some, past}
+use Rattle.pp_tokens.specs.declared.token.Kind.TheVariants.{Identifier, Char as Constant, Str}
+use Rattle.pp_tokens.specs.Kinds.{begins, same, is_digit, is_letter, is_word, is_quote, is_number_rest, first_is, is_closed, is_quoted, is_constant, is_char, is_str, kind_of}
+use Rattle.pp_tokens.specs.Cut.{longest}
+use Rattle.pp_tokens.specs.Scan.{quoted_length, quoted_kind, word_token, word_before, word_length, word_or, prefixed_length, is_prefix, is_prefix_letter}
+use Rattle.pp_tokens.proofs.KindLemmas.{kind-from, to_false, differs, differs_from, letter_no_digit, no_punct, is_that, that_itself}
+use Rattle.pp_tokens.proofs.LongestLemmas.{longest_cons, long_kind, nothing, char_that, str_that, and_same, or_same, quoted_some, past}
 
 -- identifiers
 
@@ -40,9 +35,9 @@ words_false (b ∷ bs) (suc i) less within = words_false_by (is_word b) b bs i r
 letter_kind : (b : ℕ) (rest : List ℕ) (i c s : Bool) → is_letter b ≡ true → list_all is_word rest ≡ i → is_char (b ∷ rest) ≡ c → is_str (b ∷ rest) ≡ s → kind_of (b ∷ rest) ≡ long_kind i false c s false (b ∷ rest)
 letter_kind b rest i c s letter words char str =
     kind-from (b ∷ rest) i false c s false _ _
-        (ap (λ x. x && list_all is_word rest) letter ∙ words)
-        (ap (λ x. (x || (eqb b 46 && first_is is_digit rest)) && is_number_rest b rest) (letter_no_digit b letter) ∙ ap (λ x. (x && first_is is_digit rest) && is_number_rest b rest) (differs is_letter b 46 letter refl))
-        char str (no_punct is_letter b rest letter refl) refl refl
+    (ap (λ x. x && list_all is_word rest) letter ∙ words)
+    (ap (λ x. (x || (eqb b 46 && first_is is_digit rest)) && is_number_rest b rest) (letter_no_digit b letter) ∙ ap (λ x. (x && first_is is_digit rest) && is_number_rest b rest) (differs is_letter b 46 letter refl))
+    char str (no_punct is_letter b rest letter refl) refl refl
 
 -- a constant or literal of n bytes behind the word, or the word alone
 word_of : Kind → ℕ → Option ℕ → Kind × ℕ
@@ -67,12 +62,12 @@ word_longest : (b : ℕ) (bs : List ℕ) (kind : Kind) (o : Option ℕ) → is_l
 unfolding word_of
 word_longest b bs kind None letter fits longer_kinds =
     longest_cons b bs Identifier (prefix_len is_word bs) (words_true bs).0 (identifier_here b bs letter)
-        (λ i more most. let m : ℕ = i - prefix_len is_word bs - 1 in longer_none b bs kind None i m longer_kinds (omega arith) most refl)
+    (λ i more most. let m : ℕ = i - prefix_len is_word bs - 1 in longer_none b bs kind None i m longer_kinds (omega arith) most refl)
 word_longest b bs kind (Some zero) letter fits longer_kinds = absurd (omega (arith, fits.0))
 word_longest b bs kind (Some (suc k)) letter fits longer_kinds =
     let v : ℕ = prefix_len is_word bs in
     longest_cons b bs kind (v + suc k) fits.1 (longer_kinds (v + suc k) k refl fits.1 ∙ ap (λ x. cond x (Some kind) None) (that_itself (suc k)))
-        (λ i more most. let m : ℕ = i - v - 1 in longer_none b bs kind (Some (suc k)) i m longer_kinds (omega arith) most (past (suc k) (suc m) (omega arith)))
+    (λ i more most. let m : ℕ = i - v - 1 in longer_none b bs kind (Some (suc k)) i m longer_kinds (omega arith) most (past (suc k) (suc m) (omega arith)))
     ∙ (let far : suc (v + suc k) ≡ suc v + suc k = omega arith in ap (λ n. Some (kind, n)) far)
 
 -- prefixes
@@ -125,12 +120,12 @@ strs_by false false false false false x is = refl
 char_letter : (b : ℕ) (rest : List ℕ) → is_letter b ≡ true → is_char (b ∷ rest) ≡ (is_prefix_letter b && is_constant rest)
 char_letter b rest letter =
     rw (eqb_turn 76 b, eqb_turn 117 b, eqb_turn 85 b) (chars_by (is_constant (b ∷ rest)) (eqb b 76) (eqb b 117) (eqb b 85) (is_constant rest)
-        (ap (λ x. (x && is_closed 39 rest) && not (x && same rest (39 ∷ []))) (differs is_letter b 39 letter refl)))
+    (ap (λ x. (x && is_closed 39 rest) && not (x && same rest (39 ∷ []))) (differs is_letter b 39 letter refl)))
 
 str_letter : (b : ℕ) (rest : List ℕ) → is_letter b ≡ true → is_str (b ∷ rest) ≡ (((eqb b 117 && begins (codes "8") rest) && is_quoted 34 (drop 1 rest)) || (is_prefix_letter b && is_quoted 34 rest))
 str_letter b rest letter =
     rw (eqb_turn 76 b, eqb_turn 117 b, eqb_turn 85 b) (strs_by (is_quoted 34 (b ∷ rest)) (eqb b 76) (eqb b 117) (eqb b 85) ((eqb b 117 && begins (codes "8") rest) && is_quoted 34 (drop 1 rest)) (is_quoted 34 rest)
-        (ap (λ x. x && is_closed 34 rest) (differs is_letter b 34 letter refl)))
+    (ap (λ x. x && is_closed 34 rest) (differs is_letter b 34 letter refl)))
 
 -- the kind of a text that runs past the word
 past_word : (b : ℕ) (bs : List ℕ) (i : ℕ) (c s : Bool) → is_letter b ≡ true → prefix_len is_word bs < i → i ≤ length bs → is_char (b ∷ take i bs) ≡ c → is_str (b ∷ take i bs) ≡ s → kind_of (b ∷ take i bs) ≡ cond c (Some Constant) (cond s (Some Str) None)
@@ -196,8 +191,8 @@ behind_kind : (b c : ℕ) (cs : List ℕ) (m : ℕ) → is_letter b ≡ true →
 unfolding no_word
 behind_kind b c cs m letter word none within =
     let str : is_str (b ∷ c ∷ take m cs) ≡ (is_prefix_letter b && is_quoted 34 (c ∷ take m cs)) =
-        str_letter b (c ∷ take m cs) letter ∙ ap (λ x. ((eqb b 117 && (x && true)) && is_quoted 34 (take m cs)) || (is_prefix_letter b && is_quoted 34 (c ∷ take m cs))) (differs_from no_word c 56 (ap not word) refl)
-        ∙ no_second (eqb b 117) (is_quoted 34 (take m cs)) _ in
+    str_letter b (c ∷ take m cs) letter ∙ ap (λ x. ((eqb b 117 && (x && true)) && is_quoted 34 (take m cs)) || (is_prefix_letter b && is_quoted 34 (c ∷ take m cs))) (differs_from no_word c 56 (ap not word) refl)
+    ∙ no_second (eqb b 117) (is_quoted 34 (take m cs)) _ in
     past_word b (c ∷ cs) (suc m) _ _ letter (omega arith) (omega arith) (char_letter b (c ∷ take m cs) letter) str
     ∙ literal_by c cs m (eqb c 39) (eqb c 34) (is_prefix_letter b) refl refl within
     ∙ ap (λ o. cond (is_that o (suc m)) (Some (quoted_kind c)) None) (sym (one_letter b c cs))
@@ -223,14 +218,14 @@ not_word_longest b c cs letter word =
     let none : prefix_len is_word (c ∷ cs) ≡ 0 = ap (λ t. cond t (1 + prefix_len is_word cs) 0) word in
     let o : Option ℕ = prefixed_length c 1 (b ∷ c ∷ cs) cs in
     word_longest b (c ∷ cs) (quoted_kind c) o letter
-        (fits_from (c ∷ cs) o (λ n is. let fits = quoted_fits c cs _ n is in (fits.0, omega (arith, fits.1, none))))
-        (λ i m is within.
-            let far : i ≡ suc m = omega (arith, none) in
-            ap (λ n. kind_of (b ∷ take n (c ∷ cs))) far ∙ behind_kind b c cs m letter word none (omega (arith, far)))
+    (fits_from (c ∷ cs) o (λ n is. let fits = quoted_fits c cs _ n is in (fits.0, omega (arith, fits.1, none))))
+    (λ i m is within.
+    let far : i ≡ suc m = omega (arith, none) in
+    ap (λ n. kind_of (b ∷ take n (c ∷ cs))) far ∙ behind_kind b c cs m letter word none (omega (arith, far)))
     ∙ ap (λ f. Some f) (
-        ap (λ n. word_of (quoted_kind c) (suc n) o) none ∙ or_of c 1 o
-        ∙ sym (token_by b (c ∷ cs) letter ∙ ap (λ n. word_before (suc n) (b ∷ c ∷ cs) (drop n (c ∷ cs))) none)
-      )
+    ap (λ n. word_of (quoted_kind c) (suc n) o) none ∙ or_of c 1 o
+    ∙ sym (token_by b (c ∷ cs) letter ∙ ap (λ n. word_before (suc n) (b ∷ c ∷ cs) (drop n (c ∷ cs))) none)
+    )
 
 -- a word of at least two bytes that is no prefix
 
@@ -249,11 +244,11 @@ longer_word : (b c : ℕ) (cs : List ℕ) (i : ℕ) → is_letter b ≡ true →
     ((eqb b 117 && eqb 56 c) && is_quoted 34 (take i cs)) ≡ false → kind_of (b ∷ c ∷ take i cs) ≡ None
 longer_word b c cs i letter word more within none =
     past_word b (c ∷ cs) (suc i) false false letter more within
-        (char_letter b (c ∷ take i cs) letter ∙ ap (λ x. is_prefix_letter b && ((x && is_closed 39 (take i cs)) && not (x && same (take i cs) (39 ∷ [])))) (differs is_word c 39 word refl) ∙ and_false (is_prefix_letter b))
-        (str_letter b (c ∷ take i cs) letter
-          ∙ ap (λ x. ((eqb b 117 && x) && is_quoted 34 (take i cs)) || (is_prefix_letter b && is_quoted 34 (c ∷ take i cs))) (and_same (eqb 56 c))
-          ∙ ap (λ x. x || (is_prefix_letter b && is_quoted 34 (c ∷ take i cs))) none
-          ∙ ap (λ x. is_prefix_letter b && (x && is_closed 34 (take i cs))) (differs is_word c 34 word refl) ∙ and_false (is_prefix_letter b))
+    (char_letter b (c ∷ take i cs) letter ∙ ap (λ x. is_prefix_letter b && ((x && is_closed 39 (take i cs)) && not (x && same (take i cs) (39 ∷ [])))) (differs is_word c 39 word refl) ∙ and_false (is_prefix_letter b))
+    (str_letter b (c ∷ take i cs) letter
+    ∙ ap (λ x. ((eqb b 117 && x) && is_quoted 34 (take i cs)) || (is_prefix_letter b && is_quoted 34 (c ∷ take i cs))) (and_same (eqb 56 c))
+    ∙ ap (λ x. x || (is_prefix_letter b && is_quoted 34 (c ∷ take i cs))) none
+    ∙ ap (λ x. is_prefix_letter b && (x && is_closed 34 (take i cs))) (differs is_word c 34 word refl) ∙ and_false (is_prefix_letter b))
 
 long_by : (t : Bool) (c : ℕ) (cs : List ℕ) → is_word c ≡ t → t ≡ true → prefix_len is_word (c ∷ cs) ≡ suc (prefix_len is_word cs)
 long_by true c cs word is = ap (λ t. cond t (1 + prefix_len is_word cs) 0) word ∙ (let same_length : 1 + prefix_len is_word cs ≡ suc (prefix_len is_word cs) = omega arith in same_length)
@@ -267,10 +262,10 @@ unfolding word_of
 plain_word b c cs letter word none scan =
     let long = long_by (is_word c) c cs refl word in
     word_longest b (c ∷ cs) Identifier None letter tt
-        (λ i m is within.
-            let j : ℕ = i - 1 in
-            let far : i ≡ suc j = omega (arith, long) in
-            ap (λ n. kind_of (b ∷ take n (c ∷ cs))) far ∙ longer_word b c cs j letter word (omega (arith, far)) (omega (arith, far)) (none j (omega (arith, far)) (omega (arith, far))))
+    (λ i m is within.
+    let j : ℕ = i - 1 in
+    let far : i ≡ suc j = omega (arith, long) in
+    ap (λ n. kind_of (b ∷ take n (c ∷ cs))) far ∙ longer_word b c cs j letter word (omega (arith, far)) (omega (arith, far)) (none j (omega (arith, far)) (omega (arith, far))))
     ∙ ap (λ f. Some f) (sym (token_by b (c ∷ cs) letter ∙ scan))
 
 no_prefix_by : (w1 w2 p e x y : Bool) → w1 ≡ false → (w2 && (x && y)) ≡ false → ((w1 && p) || (((e && w2) && x) && y)) ≡ false
@@ -291,9 +286,9 @@ not_u8 b c cs letter word other =
     let long = long_by (is_word c) c cs refl word in
     let w : ℕ = suc (prefix_len is_word (c ∷ cs)) in
     plain_word b c cs letter word (λ i more within. second_false _ _ other)
-        (alone w (b ∷ c ∷ cs) (drop (prefix_len is_word (c ∷ cs)) (c ∷ cs)) (λ q.
-            no_prefix_by (eqb w 1) (eqb w 2) (is_prefix_letter b) (eqb q 34) (eqb b 117) (eqb c 56) (not_same w 1 (omega (arith, long)))
-                (ap (λ x. eqb w 2 && (eqb b 117 && x)) (eqb_turn c 56) ∙ ap (λ x. eqb w 2 && x) other ∙ and_false (eqb w 2))))
+    (alone w (b ∷ c ∷ cs) (drop (prefix_len is_word (c ∷ cs)) (c ∷ cs)) (λ q.
+    no_prefix_by (eqb w 1) (eqb w 2) (is_prefix_letter b) (eqb q 34) (eqb b 117) (eqb c 56) (not_same w 1 (omega (arith, long)))
+    (ap (λ x. eqb w 2 && (eqb b 117 && x)) (eqb_turn c 56) ∙ ap (λ x. eqb w 2 && x) other ∙ and_false (eqb w 2))))
 
 -- it is longer than `u8`
 beyond_u8 : (b c d : ℕ) (ds : List ℕ) → is_letter b ≡ true → is_word c ≡ true → is_word d ≡ true → longest (b ∷ c ∷ d ∷ ds) ≡ Some (word_token (b ∷ c ∷ d ∷ ds))
@@ -302,9 +297,9 @@ beyond_u8 b c d ds letter word third =
     let longer_still = long_by (is_word d) d ds refl third in
     let w : ℕ = suc (prefix_len is_word (c ∷ d ∷ ds)) in
     plain_word b c (d ∷ ds) letter word (λ i more within. no_quote (eqb b 117 && eqb 56 c) i (omega (arith, long, longer_still)))
-        (alone w (b ∷ c ∷ d ∷ ds) (drop (prefix_len is_word (c ∷ d ∷ ds)) (c ∷ d ∷ ds)) (λ q.
-            no_prefix_by (eqb w 1) (eqb w 2) (is_prefix_letter b) (eqb q 34) (eqb b 117) (eqb c 56) (not_same w 1 (omega (arith, long)))
-                (second_false (eqb w 2) _ (not_same w 2 (omega (arith, long, longer_still))))))
+    (alone w (b ∷ c ∷ d ∷ ds) (drop (prefix_len is_word (c ∷ d ∷ ds)) (c ∷ d ∷ ds)) (λ q.
+    no_prefix_by (eqb w 1) (eqb w 2) (is_prefix_letter b) (eqb q 34) (eqb b 117) (eqb c 56) (not_same w 1 (omega (arith, long)))
+    (second_false (eqb w 2) _ (not_same w 2 (omega (arith, long, longer_still))))))
   where
     no_quote : (u : Bool) (i : ℕ) → 0 < i → (u && is_quoted 34 (take i (d ∷ ds))) ≡ false
     no_quote u zero some = absurd (omega arith)
@@ -334,16 +329,16 @@ u8_behind d ds word =
     let one : prefix_len is_word (56 ∷ d ∷ ds) ≡ 1 = ap (λ n. 1 + n) none in
     let o : Option ℕ = cond (eqb d 34) (quoted_length 34 ds) None in
     word_longest 117 (56 ∷ d ∷ ds) Str o refl
-        (fits_from (56 ∷ d ∷ ds) o (λ n is. let fits = quoted_fits 34 ds (eqb d 34) n is in (fits.0, omega (arith, fits.1, one))))
-        (λ i m is within.
-            let far : i ≡ suc (suc m) = omega (arith, one) in
-            ap (λ n. kind_of (117 ∷ take n (56 ∷ d ∷ ds))) far
-            ∙ past_word 117 (56 ∷ d ∷ ds) (suc (suc m)) false _ refl (omega (arith, one)) (omega (arith, far)) refl (or_same (is_quoted 34 (d ∷ take m ds)))
-            ∙ u8_quote d ds (eqb d 34) refl m (omega (arith, far)))
+    (fits_from (56 ∷ d ∷ ds) o (λ n is. let fits = quoted_fits 34 ds (eqb d 34) n is in (fits.0, omega (arith, fits.1, one))))
+    (λ i m is within.
+    let far : i ≡ suc (suc m) = omega (arith, one) in
+    ap (λ n. kind_of (117 ∷ take n (56 ∷ d ∷ ds))) far
+    ∙ past_word 117 (56 ∷ d ∷ ds) (suc (suc m)) false _ refl (omega (arith, one)) (omega (arith, far)) refl (or_same (is_quoted 34 (d ∷ take m ds)))
+    ∙ u8_quote d ds (eqb d 34) refl m (omega (arith, far)))
     ∙ ap (λ f. Some f) (
-        ap (λ n. word_of Str (suc n) o) one
-        ∙ sym (token_by 117 (56 ∷ d ∷ ds) refl ∙ ap (λ n. word_before (suc n) (117 ∷ 56 ∷ d ∷ ds) (drop n (56 ∷ d ∷ ds))) one ∙ u8_prefix d ds (eqb d 39) (eqb d 34) refl refl)
-      )
+    ap (λ n. word_of Str (suc n) o) one
+    ∙ sym (token_by 117 (56 ∷ d ∷ ds) refl ∙ ap (λ n. word_before (suc n) (117 ∷ 56 ∷ d ∷ ds) (drop n (56 ∷ d ∷ ds))) one ∙ u8_prefix d ds (eqb d 39) (eqb d 34) refl refl)
+    )
 
 is_u8 : (b c : ℕ) (cs : List ℕ) (x y : Bool) → eqb b 117 ≡ x → eqb 56 c ≡ y → (x && y) ≡ true → longest (117 ∷ 56 ∷ cs) ≡ Some (word_token (117 ∷ 56 ∷ cs)) → longest (b ∷ c ∷ cs) ≡ Some (word_token (b ∷ c ∷ cs))
 is_u8 b c cs true true first second is here =

@@ -1,5 +1,5 @@
 -- Which bytes of a file are left by phases 1 and 2 of translation, and the physical line of each (C17 5.1.1.2 and 5.2.1.1).
-use Rattle.std.specs.Prelude.{ℕ, ◌+◌, ◌==◌, Bool, ◌&&◌, if◌then◌else◌, List, [], ◌∷◌, map, Option, None, Some}
+use Rattle.std.specs.Prelude.{ℕ, ◌+◌, ◌==◌, ◌&&◌, if◌then◌else◌, List, [], ◌∷◌, map, Option, None, Some}
 
 -- a byte, and its physical line: 1 plus the number of line feeds before it in the file
 pub record Char : Type 0 where

@@ -54,3 +54,9 @@ pub record IsPlace (cleans : Bool) (line : ℕ) (bytes : List ℕ) : Type 0 wher
   pub settled : cleans ≡ true → IsSettled bytes
   pub one : cleans ≡ false → line ≡ 1
   pub bound : line + length bytes < 2 ^ 64
+
+-- one byte spells the byte in front, it ends no line, and nothing behind it goes away
+abbrev pub IsPlain : List ℕ → Type 0
+IsPlain [] = ⊥
+IsPlain (a ∷ []) = ⊥
+IsPlain (a ∷ b ∷ bs) = (a ≢ 63) × (a ≢ 10) × (b ≢ 13) × (b ≢ 92) × (b ≢ 63)

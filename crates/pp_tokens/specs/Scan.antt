@@ -1,5 +1,5 @@
 -- What the steps of the scanner find in front of the rest of a text.
-use Rattle.std.specs.Prelude.{◌≡◌, ℕ, zero, suc, ◌+◌, ◌==◌, Bool, true, false, not, ◌&&◌, ◌||◌, if◌then◌else◌, List, [], ◌∷◌, length, take, drop, Option, None, Some, Result, Ok, Err}
+use Rattle.std.specs.Prelude.{◌≡◌, ℕ, zero, suc, ◌+◌, ◌==◌, ◌<◌, slice_index, Bool, true, not, ◌&&◌, ◌||◌, if◌then◌else◌, List, [], ◌∷◌, length, take, drop, Option, None, Some, Result, Ok, Err}
 use Rattle.std.specs.Option.{option_map}
 use Rattle.std.specs.List.{prefix_len, find}
 use lib.Chars.{codes}
@@ -46,6 +46,19 @@ closing quote (b ∷ c ∷ bs) =
 abbrev pub element : ℕ → List ℕ → ℕ
 element quote [] = 0
 element quote (b ∷ bs) = if (b == quote) || (b == 10) then 0 else (if b == 92 then (if first_is (λ c. not (c == 10)) bs then 2 else 0) else 1)
+
+-- none of these quotes among the next count bytes has a closing quote
+abbrev pub KnownLone : ℕ → ℕ → List ℕ → Type 0
+KnownLone quote count bytes = (i : ℕ) → i < count → ((slice_index bytes i) == quote) ≡ true → closing quote (drop (suc i) bytes) ≡ None
+
+-- the same of `'` and of `"`
+pub record IsKnown (single double : ℕ) (bytes : List ℕ) : Type 0 where
+  pub of_single : KnownLone 39 single bytes
+  pub of_double : KnownLone 34 double bytes
+
+-- the one of the two counts that is meant
+abbrev pub count_of : ℕ → ℕ → ℕ → ℕ
+count_of quote single double = if quote == 39 then single else (if quote == 34 then double else 0)
 
 -- the length of the constant or literal whose opening quote stands before these bytes
 abbrev pub quoted_length : ℕ → List ℕ → Option ℕ

@@ -5,7 +5,7 @@ ghost use Rattle.pp_tokens.specs.Kinds.{first_is};
 ghost use Rattle.pp_tokens.specs.Raw.{left_of, line_behind};
 ghost use Rattle.pp_tokens.specs.Scan.{first_byte};
 
-use crate::raw::{behind, front, past_return, past_splices};
+use crate::raw::{behind, front, is_plain, past_return, past_splices};
 use std::marker::Model;
 
 /// The bytes of a text that are left, each with its line. Of a file they are cleaned as they are read.
@@ -74,6 +74,7 @@ impl<'a> Chars<'a> {
     }
 
     /// The byte in front.
+    #[inline]
     pub fn peek(&self) -> Option<u8>
         ensures { result ≡ first_byte self.now }
     {
@@ -84,6 +85,7 @@ impl<'a> Chars<'a> {
     }
 
     /// Whether this byte stands in front.
+    #[inline]
     pub fn is_at(&self, byte: u8) -> bool
         ensures { result ≡ first_is (λ b. b == byte) (bytes_of self.now) }
     {
@@ -101,7 +103,19 @@ impl<'a> Chars<'a> {
     }
 
     /// Goes past the byte in front.
+    #[inline]
     pub fn advance(&mut self)
+        ensures { self.new ≡ drop 1 self.old }
+    {
+        if is_plain(self.rest) {
+            self.rest = behind(self.rest, 1);
+        } else {
+            self.advance_slowly();
+        }
+    }
+
+    /// Goes past the byte in front, whatever spells it and stands behind it.
+    fn advance_slowly(&mut self)
         ensures { self.new ≡ drop 1 self.old }
     {
         if let Some((byte, width)) = front(self.cleans, self.rest) {

@@ -12,7 +12,11 @@ pub fn is_digit(byte: u8) -> bool
 pub fn is_letter(byte: u8) -> bool
     ensures { result ≡ is_letter byte }
 {
-    byte >= 65 && byte <= 90 || byte >= 97 && byte <= 122 || byte == b'_' || byte == b'$' || byte >= 128
+    byte >= 65 && byte <= 90
+        || byte >= 97 && byte <= 122
+        || byte == b'_'
+        || byte == b'$'
+        || byte >= 128
 }
 
 pub fn is_word(byte: u8) -> bool
@@ -39,7 +43,8 @@ pub fn is_blank(byte: u8) -> bool
 fn is_exponent_sign(before: u8, byte: u8) -> bool
     ensures { result ≡ is_exponent_sign before byte }
 {
-    (byte == b'+' || byte == b'-') && (before == b'e' || before == b'E' || before == b'p' || before == b'P')
+    (byte == b'+' || byte == b'-')
+        && (before == b'e' || before == b'E' || before == b'p' || before == b'P')
 }
 
 /// Whether the byte goes on with a number behind the other.

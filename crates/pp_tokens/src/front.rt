@@ -1,25 +1,27 @@
-ghost use Rattle.std.specs.Prelude.{◌≡◌, ◌≤◌, ◌+◌, ◌==◌, if◌then◌else◌, false, [], ◌∷◌, drop, length, IfSome};
+ghost use Rattle.std.specs.Prelude.{◌≡◌, ◌≤◌, ◌+◌, ◌==◌, if◌then◌else◌, false, [], ◌∷◌, drop, length, IfSome, IsTrue};
 ghost use Rattle.pp_tokens.specs.Cleaning.{bytes_of};
 ghost use Rattle.std.specs.Option.{option_map};
 ghost use Rattle.pp_tokens.specs.Cut.{piece_at, token_at, up_to_close};
 ghost use Rattle.pp_tokens.specs.Kinds.{begins, is_blank};
 ghost use Rattle.pp_tokens.specs.declared.piece.What.TheVariants.{Comment};
 ghost use Rattle.pp_tokens.specs.Kinds.{begins_number};
-ghost use Rattle.pp_tokens.specs.Scan.{first_byte, quoted_length, quoted_kind, is_prefix_letter, is_prefix, prefixed_length, word_token, quote_or, punct_or, punctuator_length, scanned, header_by};
+ghost use Rattle.pp_tokens.specs.Scan.{first_byte, closing, IsKnown, quoted_length, quoted_kind, is_prefix_letter, is_prefix, prefixed_length, word_token, quote_or, punct_or, punctuator_length, scanned, header_by};
 
 use crate::chars::Chars;
 use crate::classes::{is_blank, is_digit, is_letter, is_quote};
+use crate::lone::Lone;
 use crate::measures::{closing, line_rest, number_rest, up_to, up_to_close, word_length};
 use crate::piece::What;
 use crate::punctuators::punctuator_length;
 use crate::token::Kind;
 
-/// The length of the constant or literal whose opening quote stands before these bytes.
-fn quoted_length(quote: u8, behind: &Chars<'_>) -> Option<usize>
+/// The length of the constant or literal whose opening quote stands before these bytes. It may be known that none is.
+fn quoted_length(quote: u8, behind: &Chars<'_>, known: bool) -> Option<usize>
+    requires { IsTrue known → closing quote (bytes_of behind.now) ≡ None }
     ensures value { result ≡ quoted_length quote (bytes_of behind.now) }
     ensures bound { IfSome result (λ n. n ≤ length behind.now + 1) }
 {
-    if quote == b'\'' && behind.is_at(b'\'') {
+    if known || quote == b'\'' && behind.is_at(b'\'') {
         return None;
     }
     match closing(quote, behind) {
@@ -31,7 +33,11 @@ fn quoted_length(quote: u8, behind: &Chars<'_>) -> Option<usize>
 fn quoted_kind(quote: u8) -> Kind
     ensures { result ≡ quoted_kind quote }
 {
-    if quote == b'\'' { Kind::Char } else { Kind::Str }
+    if quote == b'\'' {
+        Kind::Char
+    } else {
+        Kind::Str
+    }
 }
 
 /// Whether the byte is `L`, `u` or `U`.
@@ -57,19 +63,27 @@ fn is_prefix(quote: u8, word: usize, chars: &Chars<'_>) -> bool
 }
 
 /// The length of what a quote opens behind this word, if the word is a prefix of it.
-fn prefixed_length(quote: u8, word: usize, chars: &Chars<'_>, behind: &Chars<'_>) -> Option<usize>
+fn prefixed_length(
+    quote: u8,
+    word: usize,
+    chars: &Chars<'_>,
+    behind: &Chars<'_>,
+    known: bool,
+) -> Option<usize>
+    requires { IsTrue known → closing quote (bytes_of behind.now) ≡ None }
     ensures value { result ≡ prefixed_length quote word (bytes_of chars.now) (bytes_of behind.now) }
     ensures bound { IfSome result (λ n. n ≤ length behind.now + 1) }
 {
     if is_quote(quote) && is_prefix(quote, word, chars) {
-        quoted_length(quote, behind)
+        quoted_length(quote, behind, known)
     } else {
         None
     }
 }
 
 /// An identifier, or a constant or literal with a prefix.
-fn word_token(chars: &Chars<'_>) -> (Kind, usize)
+fn word_token(chars: &Chars<'_>, lone: Lone) -> (Kind, usize)
+    requires { IsKnown lone.single lone.double (bytes_of chars.now) }
     ensures { result ≡ word_token (bytes_of chars.now) }
 {
     let word = word_length(chars);
@@ -79,17 +93,19 @@ fn word_token(chars: &Chars<'_>) -> (Kind, usize)
         return (Kind::Identifier, word);
     };
     behind.advance();
-    match prefixed_length(quote, word, chars, &behind) {
+    let known = word < lone.count(quote);
+    match prefixed_length(quote, word, chars, &behind, known) {
         Some(quoted) => (quoted_kind(quote), word + quoted),
         None => (Kind::Identifier, word),
     }
 }
 
 /// A constant or literal without a prefix, or a quote alone.
-fn quote_token(quote: u8, behind: &Chars<'_>) -> (Kind, usize)
+fn quote_token(quote: u8, behind: &Chars<'_>, known: bool) -> (Kind, usize)
+    requires { IsTrue known → closing quote (bytes_of behind.now) ≡ None }
     ensures { result ≡ quote_or quote (quoted_length quote (bytes_of behind.now)) }
 {
-    match quoted_length(quote, behind) {
+    match quoted_length(quote, behind, known) {
         Some(quoted) => (quoted_kind(quote), quoted),
         None => (Kind::LoneQuote, 1),
     }
@@ -116,20 +132,22 @@ fn begins_number(first: u8, behind: &Chars<'_>) -> bool
 }
 
 /// The token in front of a text that begins with no white space.
-pub fn token(first: u8, chars: &Chars<'_>) -> (Kind, usize)
-    requires { Some first ≡ first_byte chars.now }
+pub fn token(first: u8, chars: &Chars<'_>, lone: Lone) -> (Kind, usize)
+    requires known { IsKnown lone.single lone.double (bytes_of chars.now) }
+    requires first { Some first ≡ first_byte chars.now }
     ensures { result ≡ scanned (bytes_of chars.now) }
 {
     let mut behind = chars.fork();
     behind.advance();
     if is_letter(first) {
-        return word_token(chars);
+        return word_token(chars, lone);
     }
     if begins_number(first, &behind) {
         return (Kind::Number, number_rest(first, &behind) + 1);
     }
     if is_quote(first) {
-        return quote_token(first, &behind);
+        let known = lone.count(first) > 0;
+        return quote_token(first, &behind, known);
     }
     punct_token(chars)
 }
@@ -153,11 +171,16 @@ fn header_name(first: u8, behind: &Chars<'_>) -> Option<usize>
 fn allowed_header(header: bool, first: u8, behind: &Chars<'_>) -> Option<usize>
     ensures { result ≡ (if header then header_by first (bytes_of behind.now) else None) }
 {
-    if header { header_name(first, behind) } else { None }
+    if header {
+        header_name(first, behind)
+    } else {
+        None
+    }
 }
 
 /// The token in front: the header name where one may stand and stands there, else the longest.
-fn token_piece(header: bool, first: u8, chars: &Chars<'_>) -> Option<(What, usize)>
+fn token_piece(header: bool, first: u8, chars: &Chars<'_>, lone: Lone) -> Option<(What, usize)>
+    requires known { IsKnown lone.single lone.double (bytes_of chars.now) }
     requires first { Some first ≡ first_byte chars.now }
     requires not_line_feed { (first == 10) ≡ false }
     requires not_blank { is_blank first ≡ false }
@@ -168,7 +191,7 @@ fn token_piece(header: bool, first: u8, chars: &Chars<'_>) -> Option<(What, usiz
     match allowed_header(header, first, &behind) {
         Some(length) => Some((What::Word(Kind::Header), length)),
         None => {
-            let (kind, length) = token(first, chars);
+            let (kind, length) = token(first, chars, lone);
             Some((What::Word(kind), length))
         }
     }
@@ -197,7 +220,8 @@ fn block_comment(star: &Chars<'_>) -> Option<(What, usize)>
 }
 
 /// The piece in front and its length. None at the end, and where a comment is not closed.
-pub fn piece(lines: bool, header: bool, chars: &Chars<'_>) -> Option<(What, usize)>
+pub fn piece(lines: bool, header: bool, chars: &Chars<'_>, lone: Lone) -> Option<(What, usize)>
+    requires { IsKnown lone.single lone.double (bytes_of chars.now) }
     ensures { result ≡ piece_at lines header (bytes_of chars.now) }
 {
     let Some(first) = chars.peek() else {
@@ -217,5 +241,5 @@ pub fn piece(lines: bool, header: bool, chars: &Chars<'_>) -> Option<(What, usiz
     if is_comment(first, &behind, b'*') {
         return block_comment(&behind);
     }
-    token_piece(header, first, chars)
+    token_piece(header, first, chars, lone)
 }

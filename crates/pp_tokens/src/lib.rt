@@ -9,6 +9,7 @@ mod front;
 mod laws;
 mod lexing;
 mod line;
+mod lone;
 mod measures;
 mod page;
 mod piece;

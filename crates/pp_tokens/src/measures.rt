@@ -100,7 +100,11 @@ pub fn closing(quote: u8, chars: &Chars<'_>) -> Option<usize>
         ahead.skip(size);
         length += size;
     }
-    if ahead.is_at(quote) { Some(length + 1) } else { None }
+    if ahead.is_at(quote) {
+        Some(length + 1)
+    } else {
+        None
+    }
 }
 
 /// The bytes up to and with the next one of these on the line.

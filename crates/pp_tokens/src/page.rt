@@ -93,7 +93,12 @@ impl Page {
     {
         let mut page = self;
         page.end_line(alloc)?;
-        let Page { lines, number: _, tokens: _, space: _ } = page;
+        let Page {
+            lines,
+            number: _,
+            tokens: _,
+            space: _,
+        } = page;
         Ok(lines)
     }
 
@@ -101,7 +106,12 @@ impl Page {
     pub fn into_tokens(self) -> Tokens
         ensures { result ≡ self.tokens }
     {
-        let Page { lines: _, number: _, tokens, space: _ } = self;
+        let Page {
+            lines: _,
+            number: _,
+            tokens,
+            space: _,
+        } = self;
         tokens
     }
 }

@@ -1,6 +1,6 @@
-ghost use Rattle.std.specs.Prelude.{◌≡◌, ◌≤◌, ◌<◌, ◌+◌, ◌^◌, ℕ, length, drop, IfSome};
+ghost use Rattle.std.specs.Prelude.{◌≡◌, ◌≤◌, ◌<◌, ◌+◌, ◌^◌, ℕ, length, drop, IfSome, IsTrue};
 ghost use Rattle.pp_tokens.specs.Cleaning.{trigraph, cleaned_from};
-ghost use Rattle.pp_tokens.specs.Raw.{decoded, feed, splice, IsSettled, front_of};
+ghost use Rattle.pp_tokens.specs.Raw.{decoded, feed, splice, IsSettled, IsPlain, front_of};
 
 /// The bytes behind the first ones.
 pub fn behind(bytes: &[u8], count: usize) -> &[u8]
@@ -99,15 +99,31 @@ pub fn past_return(bytes: &[u8]) -> &[u8]
 }
 
 /// The byte in front, and how many bytes spell it.
+#[inline]
 pub fn front(cleans: bool, bytes: &[u8]) -> Option<(u8, usize)>
     ensures value { result ≡ front_of cleans bytes.now }
     ensures bound { IfSome result (λ unit. (1 ≤ unit.1) × (unit.1 ≤ length bytes.now)) }
 {
-    if cleans {
+    let [byte, ..] = bytes else {
+        return None;
+    };
+    if cleans && *byte == b'?' {
         return decoded(bytes);
     }
+    Some((*byte, 1))
+}
+
+/// Whether one byte in front is to be passed over, and nothing behind it goes away.
+#[inline]
+pub fn is_plain(bytes: &[u8]) -> bool
+    ensures { IsTrue result → IsPlain bytes.now }
+{
     match bytes {
-        [byte, ..] => Some((*byte, 1)),
-        [] => None,
+        [byte, next, ..] => *byte != b'?'
+            && *byte != b'\n'
+            && *next != b'\r'
+            && *next != b'\\'
+            && *next != b'?',
+        _ => false,
     }
 }

@@ -1,13 +1,15 @@
 ghost use Rattle.std.specs.Prelude.{◌≡◌, ◌≢◌, ◌≤◌, ◌++◌, [], take, drop, IfOk, OnOk};
 ghost use Rattle.pp_tokens.specs.Cleaning.{bytes_of};
 ghost use Rattle.pp_tokens.specs.Cut.{put};
-ghost use Rattle.pp_tokens.specs.Scan.{Steps, Scans};
+ghost use Rattle.pp_tokens.specs.Scan.{IsKnown, Steps, Scans};
 
 use crate::chars::Chars;
 use crate::fault::LexFault;
 use crate::front::piece;
+use crate::lone::Lone;
 use crate::page::Page;
 use crate::piece::What;
+use crate::token::Kind;
 use mac_base::{Bytes, NoMemory};
 use std::alloc::Global;
 
@@ -28,7 +30,7 @@ fn take_text(alloc: Global, count: usize, chars: &mut Chars<'_>) -> Result<Bytes
     ensures text { IfOk result (λ text. text ≡ bytes_of (take count chars.old)) }
     ensures left { OnOk result (chars.new ≡ drop count chars.old) }
 {
-    let mut text = Vec::new(alloc);
+    let mut text = Vec::with_capacity(alloc, count)?;
     for _ in 0..count {
         take_byte(&mut text, chars)?;
     }
@@ -36,7 +38,13 @@ fn take_text(alloc: Global, count: usize, chars: &mut Chars<'_>) -> Result<Bytes
 }
 
 /// Puts the piece in front, of this length, on the page.
-fn put_piece(alloc: Global, what: What, count: usize, chars: &mut Chars<'_>, page: &mut Page) -> Result<(), NoMemory>
+fn put_piece(
+    alloc: Global,
+    what: What,
+    count: usize,
+    chars: &mut Chars<'_>,
+    page: &mut Page,
+) -> Result<(), NoMemory>
     requires some { 1 ≤ count }
     requires left { chars.old ≢ [] }
     ensures page { OnOk result (page.new ≡ put page.old what (take count chars.old)) }
@@ -61,25 +69,54 @@ fn put_piece(alloc: Global, what: What, count: usize, chars: &mut Chars<'_>, pag
 }
 
 /// Reads the piece in front.
-fn step(alloc: Global, lines: bool, chars: &mut Chars<'_>, page: &mut Page) -> Result<(), LexFault>
-    requires { chars.old ≢ [] }
-    ensures { Steps lines page.old chars.old page.new chars.new result }
+fn step(
+    alloc: Global,
+    lines: bool,
+    chars: &mut Chars<'_>,
+    page: &mut Page,
+    lone: &mut Lone,
+) -> Result<(), LexFault>
+    requires left { chars.old ≢ [] }
+    requires known { IsKnown lone.old.single lone.old.double (bytes_of chars.old) }
+    ensures step { Steps lines page.old chars.old page.new chars.new result }
+    ensures known { OnOk result (IsKnown lone.new.single lone.new.double (bytes_of chars.new)) }
 {
-    let Some((what, count)) = piece(lines, page.header_may_stand(), chars) else {
+    let first = chars.peek();
+    let Some((what, count)) = piece(lines, page.header_may_stand(), chars, *lone) else {
         return Err(LexFault::OpenComment { line: chars.line() });
     };
     match put_piece(alloc, what, count, chars, page) {
-        Ok(()) => Ok(()),
+        Ok(()) => {
+            *lone = known_behind(lone.behind(count), first, what, chars);
+            Ok(())
+        }
         Err(_) => Err(LexFault::NoMemory),
     }
 }
 
+/// What is known of the quotes behind a piece that began with this byte.
+fn known_behind(lone: Lone, first: Option<u8>, what: What, chars: &Chars<'_>) -> Lone
+    requires { IsKnown lone.single lone.double (bytes_of chars.now) }
+    ensures { IsKnown result.single result.double (bytes_of chars.now) }
+{
+    match (what, first) {
+        (What::Word(Kind::LoneQuote), Some(quote)) => lone.learned(quote, chars),
+        _ => lone,
+    }
+}
+
 /// Reads all pieces.
-pub fn scan(alloc: Global, lines: bool, chars: &mut Chars<'_>, page: &mut Page) -> Result<(), LexFault>
+pub fn scan(
+    alloc: Global,
+    lines: bool,
+    chars: &mut Chars<'_>,
+    page: &mut Page,
+) -> Result<(), LexFault>
     ensures { Scans lines page.old chars.old page.new result }
 {
+    let mut lone = Lone::unknown();
     'pieces: while chars.peek().is_some() {
-        step(alloc, lines, chars, page)?;
+        step(alloc, lines, chars, page, &mut lone)?;
     }
     Ok(())
 }

@@ -22,6 +22,7 @@ impl<'a> Model for OffsetsView<'a> {
 }
 
 impl<'a> OffsetsView<'a> {
+    /// The section with these bytes, whose entries have eight bytes where `wide` holds, and four elsewhere.
     pub fn new(section: &'a [u8], wide: bool) -> OffsetsView<'a>
         ensures { result ≡ record { section = section.now; wide = wide } }
     {

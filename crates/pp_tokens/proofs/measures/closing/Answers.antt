@@ -1,4 +1,4 @@
-use Rattle.std.proofs.Common.{◌≡◌, ◌+◌, ℕ, drop, length-drop, arith, subst, ap, sym, List, length}
+use Rattle.std.proofs.Common.{◌≡◌, ◌+◌, length-drop, arith, subst, ap, sym, List, length}
 use Rattle.std.specs.Option.{option_map}
 use Rattle.pp_tokens.specs.Cleaning.{Char, bytes_of}
 use Rattle.pp_tokens.specs.Scan.{closing}

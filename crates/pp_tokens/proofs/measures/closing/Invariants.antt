@@ -1,8 +1,7 @@
-use Rattle.std.proofs.Common.{◌≡◌, ℕ, ◌+◌, ◌≤◌, length}
+use Rattle.std.proofs.Common.{◌≡◌, ◌+◌, ◌≤◌, length}
 use Rattle.std.specs.Option.{option_map}
 use Rattle.pp_tokens.specs.Cleaning.{bytes_of}
-use Rattle.pp_tokens.specs.Cut.{line_rest, up_to, up_to_close}
-use Rattle.pp_tokens.specs.Scan.{word_length, number_rest, closing}
+use Rattle.pp_tokens.specs.Scan.{closing}
 use Rattle.pp_tokens.proofs.measures.closing.Given as goal
 
 abbrev pub invariant-loop-size : goal.invariant-loop-size

@@ -1,4 +1,4 @@
-use Rattle.std.proofs.Common.{◌≡◌, ◌++◌, List, [], ◌∷◌, ℕ, Result, Ok, Err, IsTrue, ◌↔◌, sym, ◌∙◌, ap, subst}
+use Rattle.std.proofs.Common.{List, [], ◌∷◌, ℕ, Result, Ok, Err, IsTrue, ◌↔◌, ◌∙◌, ap, subst}
 use Rattle.pp_tokens.specs.declared.fault.LexFault.{LexFault}
 use Rattle.pp_tokens.specs.declared.fault.LexFault.TheVariants.{OpenComment}
 use Rattle.pp_tokens.specs.declared.token.Token.{Token}
@@ -11,7 +11,7 @@ pub returns-in-Ok : goal.returns-in-Ok
 returns-in-Ok c =
     let lexed = subst (λ (bytes : List ℕ). LexesText bytes (Ok c.in-Ok.found)) (c.as_slice.ensures.value ∙ c.in_ok-text.ensures) c.in-Ok.ensures in
     gives-iff c.args.first.now c.args.second.now c.in-Ok.found c.are_both.result lexed
-        (subst (λ (ts : List Token). IsTrue c.are_both.result ↔ SameTokens ts (c.args.first.now ∷ c.args.second.now ∷ [])) c.as_slice-in-Ok.ensures c.are_both.ensures)
+    (subst (λ (ts : List Token). IsTrue c.are_both.result ↔ SameTokens ts (c.args.first.now ∷ c.args.second.now ∷ [])) c.as_slice-in-Ok.ensures c.are_both.ensures)
 
 pub returns : goal.returns
 returns c =

@@ -1,4 +1,4 @@
-use Rattle.std.proofs.Common.{◌≤◌, take}
+use Rattle.std.proofs.Common.{take}
 use Rattle.pp_tokens.specs.Printing.{Prints}
 use Rattle.pp_tokens.proofs.printing.print_tokens.Given as goal
 

@@ -1,4 +1,4 @@
-use Rattle.std.proofs.Common.{◌≡◌, List, [], sym, refl, inl, inr, append-nil, ◌∙◌}
+use Rattle.std.proofs.Common.{[], sym, refl, inr, append-nil}
 use Rattle.pp_tokens.proofs.KindLemmas.{clash}
 use Rattle.pp_tokens.proofs.printing.put_gap.Goals as goal
 

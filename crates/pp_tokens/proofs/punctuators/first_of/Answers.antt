@@ -1,4 +1,4 @@
-use Rattle.std.proofs.Common.{◌≡◌, ℕ, List, [], sym, ◌∙◌, ap, arith}
+use Rattle.std.proofs.Common.{[], sym, ◌∙◌, ap}
 use Rattle.std.specs.Option.{option_map}
 use Rattle.pp_tokens.specs.Scan.{fits, unpadded_length}
 use Rattle.pp_tokens.proofs.TableLemmas.{find-here, find-later}

@@ -1,4 +1,4 @@
-use Rattle.std.proofs.Common.{◌≡◌, ◌+◌, ◌≤◌, List, ℕ, length, drop, length-drop, sym, ◌∙◌, ap, arith}
+use Rattle.std.proofs.Common.{◌+◌, length, length-drop, sym, ◌∙◌, ap, arith}
 use Rattle.pp_tokens.specs.Cleaning.{cleaned_from}
 use Rattle.pp_tokens.proofs.CleanLemmas.{splice-some}
 use Rattle.pp_tokens.proofs.raw.past_splices.Goals as goal

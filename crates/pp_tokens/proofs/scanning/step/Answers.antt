@@ -2,10 +2,19 @@ use Rattle.std.proofs.Common.{◌≡◌, Some, sym, ◌∙◌, ap}
 use Rattle.pp_tokens.specs.Cleaning.{bytes_of}
 use Rattle.pp_tokens.specs.Cut.{piece_at, header_may_stand}
 use Rattle.pp_tokens.proofs.ScanLemmas.{piece-fits}
+use Rattle.std.proofs.Common.{subst}
+use Rattle.pp_tokens.specs.declared.lone.Lone.{Lone}
+use Rattle.pp_tokens.specs.Scan.{IsKnown}
+use Rattle.pp_tokens.proofs.LoneLemmas.{known-behind}
 use Rattle.pp_tokens.proofs.scanning.step.Goals as goal
 
 pub put_piece-requires-clause-some : goal.put_piece-requires-clause-some
 put_piece-requires-clause-some c =
     let stands : piece_at c.args.lines (header_may_stand c.args.page.now.tokens) (bytes_of c.args.chars.now) ≡ Some (c.in-Some.what, c.in-Some.count) =
-        ap (λ t. piece_at c.args.lines t (bytes_of c.args.chars.now)) (sym c.header_may_stand.ensures) ∙ sym c.piece.ensures ∙ c.in-Some.is in
+    ap (λ t. piece_at c.args.lines t (bytes_of c.args.chars.now)) (sym c.header_may_stand.ensures) ∙ sym c.piece.ensures ∙ c.in-Some.is in
     (piece-fits c.args.lines (header_may_stand c.args.page.now.tokens) c.args.chars.now c.in-Some.what c.in-Some.count stands).0
+
+pub known_behind-requires : goal.known_behind-requires
+known_behind-requires c =
+    subst (λ (l : Lone). IsKnown l.single l.double (bytes_of c.put_piece.new.chars)) (sym c.behind.ensures)
+    (known-behind c.args.lone.now.single c.args.lone.now.double c.in-Some.count c.args.chars.now c.put_piece.new.chars c.requires.known c.in-Ok.ensures.left)

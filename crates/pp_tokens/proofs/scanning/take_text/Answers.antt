@@ -1,4 +1,4 @@
-use Rattle.std.proofs.Common.{◌≡◌, ◌++◌, List, take, drop, sym, ◌∙◌, ap}
+use Rattle.std.proofs.Common.{◌++◌, List, take, drop, sym, ◌∙◌, ap}
 use Rattle.std.proofs.lemmas.List.{drop-drop}
 use Rattle.pp_tokens.specs.Cleaning.{Char, bytes_of}
 use Rattle.pp_tokens.proofs.ScanLemmas.{take-one_more}

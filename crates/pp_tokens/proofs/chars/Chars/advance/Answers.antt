@@ -1,11 +1,10 @@
-use Rattle.std.proofs.Common.{◌≡◌, List, ℕ, drop, sym, ◌∙◌, ap}
-use Rattle.pp_tokens.specs.Raw.{left_of, line_behind}
-use Rattle.pp_tokens.proofs.CleanLemmas.{place-behind}
+use Rattle.std.proofs.Common.{drop, ◌∙◌, ap}
+use Rattle.pp_tokens.specs.Raw.{left_of}
+use Rattle.pp_tokens.proofs.CleanLemmas.{plain-behind}
 use Rattle.pp_tokens.proofs.chars.Chars.advance.Goals as goal
 
-pub returns-in-Some : goal.returns-in-Some
-returns-in-Some c =
+pub returns-then-is_plain : goal.returns-then-is_plain
+returns-then-is_plain c =
     let inside = c.self.inside in
-    c.self-in-Some.view_is ∙ c.behind-in-Some.ensures ∙ ap (left_of inside.cleans (line_behind inside.line c.in-Some.byte)) c.behind.ensures
-    ∙ place-behind inside.cleans inside.line inside.rest.now c.in-Some.byte c.in-Some.width c.self.invariant (sym c.front.ensures.value ∙ c.in-Some.is)
-    ∙ ap (drop 1) c.self.view_is
+    ap (left_of inside.cleans inside.line) c.behind-self-inside.ensures
+    ∙ plain-behind inside.cleans inside.line inside.rest.now c.self.invariant (c.is_plain.ensures c.if-is_plain.true) ∙ ap (drop 1) c.self.view_is

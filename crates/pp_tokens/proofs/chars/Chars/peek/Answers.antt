@@ -1,4 +1,4 @@
-use Rattle.std.proofs.Common.{◌≡◌, List, Some, sym, ◌∙◌, ap}
+use Rattle.std.proofs.Common.{sym, ◌∙◌, ap}
 use Rattle.pp_tokens.specs.Scan.{first_byte}
 use Rattle.pp_tokens.proofs.CleanLemmas.{place-byte}
 use Rattle.pp_tokens.proofs.chars.Chars.peek.Goals as goal
