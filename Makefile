@@ -21,6 +21,7 @@ install: build
 
 # Time and memory on large input.
 bench: build
+	@cd crates/lex_bench && rt run -- data/small.c >/dev/null
 	@bench/run
 
 # Compares with tools of this machine, where they are there.

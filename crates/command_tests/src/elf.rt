@@ -10,9 +10,9 @@ pub fn linked(alloc: Global, macros: &[u8], strs: &[u8]) -> Result<Vec<u8>, Allo
     )?;
     let first = 64;
     let second = first + macros.len() as u64;
-    let third = second + strs.len() as u64;
-    let end = third + NAMES.len() as u64;
-    let table = end.div_ceil(8) * 8;
+    let third = second.saturating_add(strs.len() as u64);
+    let end = third.saturating_add(NAMES.len() as u64);
+    let table = end.saturating_add(7) & !7;
     number(&mut file, 2, 2)?;
     number(&mut file, 62, 2)?;
     number(&mut file, 1, 4)?;
@@ -28,7 +28,7 @@ pub fn linked(alloc: Global, macros: &[u8], strs: &[u8]) -> Result<Vec<u8>, Allo
     file.extend_from_slice(macros)?;
     file.extend_from_slice(strs)?;
     file.extend_from_slice(NAMES)?;
-    number(&mut file, 0, (table - end) as usize)?;
+    number(&mut file, 0, table.saturating_sub(end) as usize)?;
     section(&mut file, [0, 0, 0, 0])?;
     section(&mut file, [1, 1, first, macros.len() as u64])?;
     section(&mut file, [14, 1, second, strs.len() as u64])?;

@@ -15,3 +15,11 @@ pub mod CleanLemmas
 pub mod UniqueLemmas
 pub mod PrintLemmas
 pub mod LoneLemmas
+pub mod CloseLemmas
+pub mod LiteralLemmas
+pub mod FrontOfLemmas
+pub mod NextLemmas
+pub mod BothLemmas
+pub mod AheadLemmas
+pub mod ReadBackLemmas
+pub mod RiseLemmas

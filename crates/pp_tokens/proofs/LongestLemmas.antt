@@ -25,7 +25,7 @@ longest_step bytes kind n m false here within is none inner =
     ap (λ o. longer o (suc m) (longest_within bytes m)) (none (suc m) (omega arith) (omega arith)) ∙ inner less
 
 -- a prefix of a kind is the longest where none that is longer has one
-longest_is : (bytes : List ℕ) (kind : Kind) (n m : ℕ) → 1 ≤ n → n ≤ m → kind_of (take n bytes) ≡ Some kind → ((k : ℕ) → n < k → k ≤ m → kind_of (take k bytes) ≡ None) → longest_within bytes m ≡ Some (kind, n)
+pub longest_is : (bytes : List ℕ) (kind : Kind) (n m : ℕ) → 1 ≤ n → n ≤ m → kind_of (take n bytes) ≡ Some kind → ((k : ℕ) → n < k → k ≤ m → kind_of (take k bytes) ≡ None) → longest_within bytes m ≡ Some (kind, n)
 longest_is bytes kind n zero some within is none = absurd (omega arith)
 longest_is bytes kind n (suc m) some within is none =
     longest_step bytes kind n m (eqb n (suc m)) refl within is none (λ less. longest_is bytes kind n m some less is (λ k more most. none k more (omega arith)))

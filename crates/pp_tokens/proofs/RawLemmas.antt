@@ -60,7 +60,7 @@ head_other line x xs true return other = ap (λ (cs : List Char). first_is (λ b
 head_other line x xs false return other = ap (λ (cs : List Char). first_is (λ b. eqb b 63) (bytes_of cs)) (kept_return line x xs return) ∙ other
 
 -- no trigraph stands for a line feed
-abbrev NoFeed : Option ℕ → Type 0
+abbrev pub NoFeed : Option ℕ → Type 0
 NoFeed None = Unit {0}
 NoFeed (Some b) = eqb b 10 ≡ false
 
@@ -68,7 +68,7 @@ either : (P : Option ℕ → Type 0) (t : Bool) (x y : Option ℕ) → P x → P
 either P true x y first second = first
 either P false x y first second = second
 
-trigraph_feed : (t : ℕ) → NoFeed (trigraph t)
+pub trigraph_feed : (t : ℕ) → NoFeed (trigraph t)
 trigraph_feed t =
     either NoFeed (eqb t 61) _ _ refl (either NoFeed (eqb t 40) _ _ refl (either NoFeed (eqb t 47) _ _ refl (either NoFeed (eqb t 41) _ _ refl (either NoFeed (eqb t 39) _ _ refl
     (either NoFeed (eqb t 60) _ _ refl (either NoFeed (eqb t 33) _ _ refl (either NoFeed (eqb t 62) _ _ refl (either NoFeed (eqb t 45) (Some 126) None refl tt))))))))

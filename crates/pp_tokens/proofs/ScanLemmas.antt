@@ -27,7 +27,7 @@ take-one_more (suc i) [] = let same : suc i + 1 ≡ suc (i + 1) = omega arith in
 take-one_more (suc i) (c ∷ cs) = (let same : suc i + 1 ≡ suc (i + 1) = omega arith in ap (λ n. bytes_of (take n (c ∷ cs))) same) ∙ ap (λ bs. c.byte ∷ bs) (take-one_more i cs)
 
 -- a piece of at least one byte and at most n
-abbrev Within : {A : Type 0} → ℕ → Option (A × ℕ) → Type 0
+abbrev pub Within : {A : Type 0} → ℕ → Option (A × ℕ) → Type 0
 Within n None = Unit {0}
 Within n (Some found) = (1 ≤ found.1) × (found.1 ≤ n)
 

@@ -14,12 +14,12 @@ use Rattle.pp_tokens.specs.Cut.{Page, Piece, no_page, put, put_all, lines_of, ch
 use Rattle.pp_tokens.specs.Laws.{CutIsUnique, IsAnswer, FileHasOneAnswer, TextHasOneAnswer}
 
 -- the first piece of a cut, and the cut behind it
-record Head (lines : Bool) (page : Page) (chars : List Char) (p : Piece) (ps : List Piece) (rest : List Char) : Type 0 where
-  stands : piece_at lines (header_may_stand page.tokens) (bytes_of chars) ≡ Some (p.what, length p.chars)
-  front : p.chars ≡ take (length p.chars) chars
-  behind : IsCut lines (put page p.what p.chars) (drop (length p.chars) chars) ps rest
+pub record Head (lines : Bool) (page : Page) (chars : List Char) (p : Piece) (ps : List Piece) (rest : List Char) : Type 0 where
+  pub stands : piece_at lines (header_may_stand page.tokens) (bytes_of chars) ≡ Some (p.what, length p.chars)
+  pub front : p.chars ≡ take (length p.chars) chars
+  pub behind : IsCut lines (put page p.what p.chars) (drop (length p.chars) chars) ps rest
 
-head_of : (lines : Bool) (page : Page) (chars : List Char) (p : Piece) (ps : List Piece) (rest : List Char) → IsCut lines page chars (p ∷ ps) rest → Head lines page chars p ps rest
+pub head_of : (lines : Bool) (page : Page) (chars : List Char) (p : Piece) (ps : List Piece) (rest : List Char) → IsCut lines page chars (p ∷ ps) rest → Head lines page chars p ps rest
 head_of lines page chars p ps rest cut =
     let whole : chars ≡ p.chars ++ (chars_of ps ++ rest) = cut.whole ∙ append_assoc p.chars (chars_of ps) rest in
     record {

@@ -117,12 +117,12 @@ strs_by false false false true false true is = refl
 strs_by false false false true false false is = refl
 strs_by false false false false false x is = refl
 
-char_letter : (b : ℕ) (rest : List ℕ) → is_letter b ≡ true → is_char (b ∷ rest) ≡ (is_prefix_letter b && is_constant rest)
+pub char_letter : (b : ℕ) (rest : List ℕ) → is_letter b ≡ true → is_char (b ∷ rest) ≡ (is_prefix_letter b && is_constant rest)
 char_letter b rest letter =
     rw (eqb_turn 76 b, eqb_turn 117 b, eqb_turn 85 b) (chars_by (is_constant (b ∷ rest)) (eqb b 76) (eqb b 117) (eqb b 85) (is_constant rest)
     (ap (λ x. (x && is_closed 39 rest) && not (x && same rest (39 ∷ []))) (differs is_letter b 39 letter refl)))
 
-str_letter : (b : ℕ) (rest : List ℕ) → is_letter b ≡ true → is_str (b ∷ rest) ≡ (((eqb b 117 && begins (codes "8") rest) && is_quoted 34 (drop 1 rest)) || (is_prefix_letter b && is_quoted 34 rest))
+pub str_letter : (b : ℕ) (rest : List ℕ) → is_letter b ≡ true → is_str (b ∷ rest) ≡ (((eqb b 117 && begins (codes "8") rest) && is_quoted 34 (drop 1 rest)) || (is_prefix_letter b && is_quoted 34 rest))
 str_letter b rest letter =
     rw (eqb_turn 76 b, eqb_turn 117 b, eqb_turn 85 b) (strs_by (is_quoted 34 (b ∷ rest)) (eqb b 76) (eqb b 117) (eqb b 85) ((eqb b 117 && begins (codes "8") rest) && is_quoted 34 (drop 1 rest)) (is_quoted 34 rest)
     (ap (λ x. x && is_closed 34 rest) (differs is_letter b 34 letter refl)))

@@ -6,6 +6,7 @@ pub record Char : Type 0 where
   pub byte : ℕ
   pub line : ℕ
 
+-- the bytes alone
 abbrev pub bytes_of : List Char → List ℕ
 bytes_of = map (λ (c : Char). c.byte)
 

@@ -73,6 +73,7 @@ pub record Piece : Type 0 where
   pub what : What
   pub chars : List Char
 
+-- the bytes of pieces, one behind another
 abbrev pub chars_of : List Piece → List Char
 chars_of = flat_map (λ (p : Piece). p.chars)
 
@@ -83,6 +84,7 @@ pub record Page : Type 0 where
   pub tokens : List Token
   pub space : Bool
 
+-- the page in front of the first piece
 abbrev pub no_page : Page
 no_page = record { lines = []; number = 0; tokens = []; space = false }
 
@@ -91,6 +93,7 @@ abbrev pub ended : List Line → ℕ → List Token → List Line
 ended lines number [] = lines
 ended lines number (t ∷ ts) = lines ++ record { number = number; tokens = t ∷ ts } ∷ []
 
+-- the page's lines, where the text ends here
 abbrev pub lines_of : Page → List Line
 lines_of page = ended page.lines page.number page.tokens
 
@@ -113,6 +116,7 @@ put page Comment chars = record page { space = true }
 put page LineEnd chars = record { lines = lines_of page; number = 0; tokens = []; space = false }
 put page (Word kind) chars = with_token page page.tokens kind chars
 
+-- the page with the pieces, in their order
 abbrev pub put_all : Page → List Piece → Page
 put_all page [] = page
 put_all page (p ∷ ps) = put_all (put page p.what p.chars) ps

@@ -24,6 +24,7 @@ is_digit b = nat_le 48 b && nat_le b 57
 abbrev pub is_letter : ℕ → Bool
 is_letter b = (nat_le 65 b && nat_le b 90) || (nat_le 97 b && nat_le b 122) || (b == 95) || (b == 36) || nat_le 128 b
 
+-- a letter or a digit
 abbrev pub is_word : ℕ → Bool
 is_word b = is_letter b || is_digit b
 
@@ -100,6 +101,7 @@ punctuators =
     ∷ codes "." ∷ codes "&" ∷ codes "*" ∷ codes "+" ∷ codes "-" ∷ codes "!" ∷ codes "/" ∷ codes "%" ∷ codes "<" ∷ codes ">" ∷ codes "^" ∷ codes "|" ∷ codes ":" ∷ codes "=" ∷ codes "#"
     ∷ []
 
+-- a punctuator of the table (6.4.6)
 abbrev pub is_punct : List ℕ → Bool
 is_punct text = list_any (same text) punctuators
 

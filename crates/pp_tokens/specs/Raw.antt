@@ -7,6 +7,7 @@ abbrev pub spelled : ℕ → Option ℕ → ℕ × ℕ
 spelled first None = (first, 1)
 spelled first (Some byte) = (byte, 3)
 
+-- the byte in front, with a trigraph as the byte that it stands for, and how many bytes it takes
 abbrev pub decoded : List ℕ → Option (ℕ × ℕ)
 decoded [] = None
 decoded (a ∷ []) = Some (a, 1)
@@ -24,6 +25,7 @@ abbrev pub splice_by : Option (ℕ × ℕ) → List ℕ → ℕ
 splice_by None bytes = 0
 splice_by (Some first) bytes = if (first.0 == 92) && nat_lt 0 (feed (drop first.1 bytes)) then first.1 + feed (drop first.1 bytes) else 0
 
+-- how many bytes a splice in front takes, or 0
 abbrev pub splice : List ℕ → ℕ
 splice bytes = splice_by (decoded bytes) bytes
 

@@ -64,6 +64,7 @@ count_of quote single double = if quote == 39 then single else (if quote == 34 t
 abbrev pub quoted_length : ℕ → List ℕ → Option ℕ
 quoted_length quote bytes = if (quote == 39) && first_is (λ b. b == 39) bytes then None else option_map suc (closing quote bytes)
 
+-- the kind of what is closed by this quote
 abbrev pub quoted_kind : ℕ → Kind
 quoted_kind quote = if quote == 39 then Constant else Str
 
@@ -91,9 +92,11 @@ abbrev pub word_before : ℕ → List ℕ → List ℕ → Kind × ℕ
 word_before word bytes [] = (Identifier, word)
 word_before word bytes (b ∷ bs) = word_or b word (prefixed_length b word bytes bs)
 
+-- the token that begins with this word
 abbrev pub word_token : List ℕ → Kind × ℕ
 word_token bytes = word_before (word_length bytes) bytes (drop (word_length bytes) bytes)
 
+-- the token of a quote: a lone one, or of so many bytes
 abbrev pub quote_or : ℕ → Option ℕ → Kind × ℕ
 quote_or quote None = (LoneQuote, 1)
 quote_or quote (Some n) = (quoted_kind quote, n)
@@ -123,6 +126,7 @@ unpadded_length (b ∷ bs) = if b == 0 then 0 else suc (unpadded_length bs)
 abbrev pub punctuator_length : List ℕ → Option ℕ
 punctuator_length bytes = option_map length (find (λ p. begins p bytes) punctuators)
 
+-- a byte that begins no punctuator, or one of so many bytes
 abbrev pub punct_or : Option ℕ → Kind × ℕ
 punct_or None = (Other, 1)
 punct_or (Some n) = (Punct, n)

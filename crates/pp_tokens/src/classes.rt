@@ -19,6 +19,7 @@ pub fn is_letter(byte: u8) -> bool
         || byte >= 128
 }
 
+/// A letter or a digit.
 pub fn is_word(byte: u8) -> bool
     ensures { result ≡ is_word byte }
 {

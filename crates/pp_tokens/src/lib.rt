@@ -22,9 +22,8 @@ mod tests;
 mod token;
 
 pub use fault::LexFault;
-pub use laws::cut_is_unique;
+pub use laws::{cut_is_unique, line_numbers_rise, printed_is_read_back};
 pub use lexing::{lex_file, lex_text};
 pub use line::{Line, Lines};
-pub use piece::What;
 pub use printing::print_tokens;
 pub use token::{Kind, Token, Tokens};

@@ -40,6 +40,7 @@ impl Model for Lines {
 }
 
 impl Lines {
+    /// No lines. Takes no memory.
     pub fn new(alloc: Global) -> Lines
         ensures { result ≡ [] }
     {
@@ -72,12 +73,14 @@ impl Lines {
         Ok(())
     }
 
+    /// How many lines there are.
     pub fn len(&self) -> usize
         ensures { result ≡ length self.now }
     {
         self.items.len()
     }
 
+    /// The lines in order.
     pub fn as_slice(&self) -> &[Line]
         ensures { result.now ≡ self.now }
     {

@@ -30,6 +30,7 @@ impl Model for Page {
 }
 
 impl Page {
+    /// The page in front of the first piece.
     pub fn new(alloc: Global) -> Page
         ensures { result ≡ no_page }
     {

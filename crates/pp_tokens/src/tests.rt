@@ -3,9 +3,8 @@ use crate::lexing::{lex_file, lex_text};
 use crate::line::{Line, Lines};
 use crate::printing::print_tokens;
 use crate::token::{Kind, Token, Tokens};
-use mac_base::{Bytes, NoMemory};
+use mac_base::NoMemory;
 use std::alloc::Global;
-use std::process::Abort;
 use std::test::Fail;
 
 /// The letter of a kind in the tables below.
@@ -93,5 +92,80 @@ fn files_are_cut_as_the_standard_says(rt: HostRuntime) -> Result<(), Fail> {
         let shown = shown_lines(rt.alloc(), &lines)?;
         assert_eq!(rt; shown.as_slice(), wanted);
     }
+    Ok(())
+}
+
+#[test]
+fn faults_name_the_first_line(rt: HostRuntime) -> Result<(), Fail> {
+    assert_eq!(rt;
+        lex_file(rt.alloc(), b"a\\\nb\n\0").err(),
+        Some(LexFault::NulByte { line: 3 })
+    );
+    assert_eq!(rt;
+        lex_file(rt.alloc(), b"/*\0").err(),
+        Some(LexFault::NulByte { line: 1 })
+    );
+    assert_eq!(rt;
+        lex_file(rt.alloc(), b"a\n/*\n//*/\n/*\n").err(),
+        Some(LexFault::OpenComment { line: 4 })
+    );
+    assert_eq!(rt;
+        lex_text(rt.alloc(), b"a\n/*").err(),
+        Some(LexFault::OpenComment { line: 1 })
+    );
+    Ok(())
+}
+
+#[test]
+fn printed_tokens_are_read_back(rt: HostRuntime) -> Result<(), Fail> {
+    let cases: [(&[&[u8]], &[u8]); 12] = [
+        (&[b"+", b"+"], b"+ +"),
+        (&[b"a", b"b"], b"a b"),
+        (&[b"a", b"+", b"1"], b"a+1"),
+        (&[b".", b".", b"."], b". . ."),
+        (&[b"%:", b"%", b":"], b"%:% :"),
+        (&[b"/", b"/"], b"/ /"),
+        (&[b"/", b"*"], b"/ *"),
+        (&[b"L", b"'a'"], b"L 'a'"),
+        (&[b"u", b"8"], b"u 8"),
+        (&[b"1e", b"+", b"x"], b"1e +x"),
+        (&[b"x  =\ny"], b"x = y"),
+        (&[], b""),
+    ];
+    for (texts, wanted) in cases {
+        let mut tokens = Vec::new(rt.alloc());
+        for text in texts {
+            for token in lex_text(rt.alloc(), text)?.into_vec() {
+                tokens.push(token)?;
+            }
+        }
+        let tokens = Tokens::from_vec(tokens);
+        let printed = print_tokens(rt.alloc(), &tokens)?;
+        assert_eq!(rt; printed.as_slice(), wanted);
+        let again = lex_text(rt.alloc(), printed.as_slice())?;
+        assert_eq!(rt; again.len(), tokens.len());
+    }
+    Ok(())
+}
+
+#[test]
+fn copies_are_alike(rt: HostRuntime) -> Result<(), Fail> {
+    let lines = lex_file(rt.alloc(), b"a 1\n'c' + b\n")?;
+    let copied = lines.copy()?;
+    let mut pushed = Lines::new(rt.alloc());
+    for line in copied.into_vec() {
+        let tokens = line.tokens.copy()?;
+        let mut again = Tokens::new(rt.alloc());
+        for token in tokens.as_slice() {
+            again.push(token.copy()?)?;
+        }
+        pushed.push(Line {
+            number: line.number,
+            tokens: again,
+        })?;
+    }
+    assert_eq!(rt; pushed.len(), 2);
+    let shown = shown_lines(rt.alloc(), &pushed)?;
+    assert_eq!(rt; shown.as_slice(), b"1 Ia~N1;2 C'c'~P+~Ib;".as_slice());
     Ok(())
 }

@@ -62,6 +62,7 @@ impl Model for Tokens {
 }
 
 impl Tokens {
+    /// No tokens. Takes no memory.
     pub fn new(alloc: Global) -> Tokens
         ensures { result ≡ [] }
     {
@@ -94,12 +95,14 @@ impl Tokens {
         Ok(())
     }
 
+    /// How many tokens there are.
     pub fn len(&self) -> usize
         ensures { result ≡ length self.now }
     {
         self.items.len()
     }
 
+    /// The tokens in order.
     pub fn as_slice(&self) -> &[Token]
         ensures { result.now ≡ self.now }
     {
