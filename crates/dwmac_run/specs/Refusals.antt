@@ -5,7 +5,7 @@ use Rattle.section_views.specs.declared.fault.ElfFault.{ElfFault}
 use Rattle.section_views.specs.declared.fault.ElfFault.TheVariants.{NotElf, Class, Order, Kind, Extended, Table, Range, Name, Compressed, Twice}
 use Rattle.unit_header.specs.declared.fault.UnitFault.{UnitFault}
 use Rattle.unit_header.specs.declared.fault.UnitKind.{UnitKind}
-use Rattle.unit_header.specs.declared.fault.UnitKind.TheVariants.{Version, Flags, Cut, Leb, NoNul, OperandTable, Form, Opcode, StrRange, ImportRange}
+use Rattle.unit_header.specs.declared.fault.UnitKind.TheVariants.{Version, Flags, Cut, Leb, NoNul, OperandTable, Form, Opcode, StrRange, ImportRange, LineRange, NoStrBase, StrxRange, NoLineTable, FileIndex, ImportCycle, EndWithoutStart, StartWithoutEnd, Supplementary, TooManyEntries}
 use Rattle.dwmac_run.specs.declared.refusal.Refusal.{Refusal}
 use Rattle.dwmac_run.specs.declared.refusal.Refusal.TheVariants.{NoSuchFile, FileTooLong, Elf, Unit as BadUnit}
 
@@ -21,6 +21,16 @@ kind_name Form = codes "Form"
 kind_name Opcode = codes "Opcode"
 kind_name StrRange = codes "StrRange"
 kind_name ImportRange = codes "ImportRange"
+kind_name LineRange = codes "LineRange"
+kind_name NoStrBase = codes "NoStrBase"
+kind_name StrxRange = codes "StrxRange"
+kind_name NoLineTable = codes "NoLineTable"
+kind_name FileIndex = codes "FileIndex"
+kind_name ImportCycle = codes "ImportCycle"
+kind_name EndWithoutStart = codes "EndWithoutStart"
+kind_name StartWithoutEnd = codes "StartWithoutEnd"
+kind_name Supplementary = codes "Supplementary"
+kind_name TooManyEntries = codes "TooManyEntries"
 
 -- the words on a fault of an ELF file
 abbrev pub elf_words : ElfFault → List ℕ

@@ -76,6 +76,16 @@ fn unit_fault_words(kind: UnitKind) -> &'static [u8]
         UnitKind::Opcode => b"Unit Opcode at 0x",
         UnitKind::StrRange => b"Unit StrRange at 0x",
         UnitKind::ImportRange => b"Unit ImportRange at 0x",
+        UnitKind::LineRange => b"Unit LineRange at 0x",
+        UnitKind::NoStrBase => b"Unit NoStrBase at 0x",
+        UnitKind::StrxRange => b"Unit StrxRange at 0x",
+        UnitKind::NoLineTable => b"Unit NoLineTable at 0x",
+        UnitKind::FileIndex => b"Unit FileIndex at 0x",
+        UnitKind::ImportCycle => b"Unit ImportCycle at 0x",
+        UnitKind::EndWithoutStart => b"Unit EndWithoutStart at 0x",
+        UnitKind::StartWithoutEnd => b"Unit StartWithoutEnd at 0x",
+        UnitKind::Supplementary => b"Unit Supplementary at 0x",
+        UnitKind::TooManyEntries => b"Unit TooManyEntries at 0x",
     }
 }
 

@@ -1,0 +1,5 @@
+mod RangeLemmas
+mod TurnLemmas
+mod BeginLemmas
+mod WalkLemmas
+mod SpliceLemmas

@@ -1,0 +1,10 @@
+pub mod Faults
+pub mod Meaning
+pub mod Units
+pub mod Splice
+pub mod Walk
+pub mod Graph
+pub mod Numbers
+pub mod Tables
+pub mod Turns
+pub mod Nodes
