@@ -36,6 +36,7 @@ meaning_of paths HeldNothing = Nothing
 abbrev pub range_of : List (List ℕ) → FileRange → List (List ℕ)
 range_of paths range = take (range.end - range.first) (drop range.first paths)
 
+-- the paths of a line table, if a unit has one
 abbrev pub paths_of : List (List ℕ) → Option FileRange → Option (List (List ℕ))
 paths_of paths files = option_map (range_of paths) files
 
