@@ -2,3 +2,14 @@ pub mod TableLemmas
 pub mod FileTableLemmas
 pub mod RenamedLemmas
 pub mod Examples
+pub mod DefinitionExamples
+pub mod JoinLemmas
+pub mod TextLemmas
+pub mod ParamLemmas
+pub mod AheadLemmas
+pub mod ReadingLemmas
+pub mod ListLemmas
+pub mod ReadBackLemmas
+pub mod ZeroLemmas
+pub mod GivenLemmas
+pub mod PlainLemmas

@@ -3,3 +3,10 @@ pub mod Codes
 pub mod Items
 pub mod FileTable
 pub mod Laws
+pub mod Answers
+pub mod Faults
+pub mod Definitions
+pub mod Params
+pub mod SameDefinitions
+pub mod Texts
+pub mod DefinitionLaws

@@ -1,4 +1,5 @@
 ghost use Rattle.std.specs.Prelude.{ℕ, List};
+ghost use Rattle.macro_table.specs.DefinitionLaws.{TextIsReadBack, TokensAreLexed, FaultsArePlain};
 ghost use Rattle.macro_table.specs.Laws.{TableHasLastWord, FileNamesAreCarried};
 
 /// A table that is made of a unit's entries in turn has for each name what the last entry says that defines or undefines
@@ -12,4 +13,17 @@ pub fn table_has_last_word()
 /// the same, and each file has its number in place of its path.
 pub fn file_names_are_carried()
     ensures { FileNamesAreCarried ℕ (List ℕ) }
+{}
+
+/// A definition is read back from its text, if phase 3 gave its tokens, but that white space then stands before the
+/// replacement list, which is no part of it (C17 6.10.3 p7).
+pub fn text_is_read_back()
+    ensures { TextIsReadBack }
+{}
+
+/// A text has the tokens or the fault that phase 3 gives it, and neither its faults nor those of tokens are ever want of
+/// memory: a call that answers `NoMemory` says nothing of its input.
+pub fn definitions_rest_on_phase_3()
+    ensures lexed { TokensAreLexed }
+    ensures plain { FaultsArePlain }
 {}

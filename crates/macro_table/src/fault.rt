@@ -1,0 +1,93 @@
+ghost use Rattle.std.specs.Prelude.{◌≡◌};
+ghost use Rattle.macro_table.specs.declared.fault.DefFault.TheVariants.{NoMemory as RanOut};
+ghost use Rattle.macro_table.specs.Faults.{lex_fault, def_fault};
+
+use mac_base::NoMemory;
+use pp_tokens::LexFault;
+use std::alloc::AllocFailed;
+use thiserror::Error;
+
+/// Why tokens behind `#define` define no macro (C17 6.10.3).
+#[derive(Clone, Copy, Debug, PartialEq, Eq, Error)]
+pub enum DefFault {
+    /// The first token is no identifier, or there is none.
+    #[error("no name")]
+    NoName,
+    /// The name is `defined` (6.10.8 p4) or `__VA_ARGS__` (6.10.3 p5).
+    #[error("a reserved name")]
+    Reserved,
+    /// What stands in the parameter list is no parameter list, or it is not closed.
+    #[error("not a parameter list")]
+    ParamSyntax,
+    /// Two parameters have one name (6.10.3 p6).
+    #[error("a repeated parameter")]
+    RepeatedParam,
+    /// `__VA_ARGS__` is a parameter, or stands in the replacement list of a macro without `...` (6.10.3 p5).
+    #[error("a misplaced __VA_ARGS__")]
+    VaArgs,
+    /// A quote that nothing closes stands in the replacement list.
+    #[error("a lone quote")]
+    LoneQuote,
+    /// `##` stands first or last in the replacement list (6.10.3.3 p1).
+    #[error("## at an edge")]
+    EdgePaste,
+    /// In a function-like macro no parameter follows a `#` (6.10.3.2 p1).
+    #[error("# without a parameter")]
+    LoneHash,
+    /// Memory ran out.
+    #[error("out of memory")]
+    NoMemory,
+}
+
+impl From<NoMemory> for DefFault {
+    ghost from_gives = { λ _ found. found ≡ RanOut };
+
+    fn from(_error: NoMemory) -> DefFault {
+        DefFault::NoMemory
+    }
+}
+
+impl<T: Drop> From<AllocFailed<T>> for DefFault {
+    ghost from_gives = { λ _ found. found ≡ RanOut };
+
+    fn from(_error: AllocFailed<T>) -> DefFault {
+        DefFault::NoMemory
+    }
+}
+
+/// Why a text is no macro definition. Neither of the faults that it holds is want of memory.
+#[derive(Clone, Copy, Debug, PartialEq, Eq, Error)]
+pub enum TextFault {
+    /// The text has no tokens.
+    #[error("{0}")]
+    Lex(LexFault),
+    /// Its tokens define no macro.
+    #[error("{0}")]
+    Def(DefFault),
+    /// Memory ran out.
+    #[error("out of memory")]
+    NoMemory,
+}
+
+impl From<LexFault> for TextFault {
+    ghost from_gives = { λ fault found. found ≡ lex_fault fault };
+
+    fn from(fault: LexFault) -> TextFault {
+        match fault {
+            LexFault::NoMemory => TextFault::NoMemory,
+            LexFault::NulByte { line: _ } => TextFault::Lex(fault),
+            LexFault::OpenComment { line: _ } => TextFault::Lex(fault),
+        }
+    }
+}
+
+impl From<DefFault> for TextFault {
+    ghost from_gives = { λ fault found. found ≡ def_fault fault };
+
+    fn from(fault: DefFault) -> TextFault {
+        match fault {
+            DefFault::NoMemory => TextFault::NoMemory,
+            _ => TextFault::Def(fault),
+        }
+    }
+}
