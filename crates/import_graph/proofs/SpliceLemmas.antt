@@ -4,11 +4,8 @@ use Rattle.mac_base.specs.SectionBytes.{SectionBytes}
 use Rattle.macro_opcodes.specs.Entry.{Entry}
 use Rattle.macro_table.specs.Items.{Item}
 use Rattle.import_graph.specs.Meaning.{Lent, Plain, Imports, Nothing, meaning}
+use Rattle.import_graph.specs.Progress.{Begins}
 use Rattle.import_graph.specs.Splice.{Splice, Spliced, None, Own, Silent, Import}
-
--- these entries stand for these items, whatever follows them
-abbrev pub Begins : SectionBytes → Lent → Option (List (List ℕ)) → List Entry → List (Item (List ℕ)) → Type 0
-Begins s lent paths entries items = (es : List Entry) (back : List (Item (List ℕ))) → Spliced s lent paths es back → Spliced s lent paths (entries ++ es) (items ++ back)
 
 moved : (s : SectionBytes) (lent : Lent) (paths : Option (List (List ℕ))) (es fs : List Entry) (items others : List (Item (List ℕ))) → es ≡ fs → items ≡ others → Spliced s lent paths es items → Spliced s lent paths fs others
 moved s lent paths es fs items others same alike is =

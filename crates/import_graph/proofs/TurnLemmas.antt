@@ -1,11 +1,14 @@
 -- Reading an entry and taking it is one turn.
-use Rattle.std.proofs.Common.{◌≡◌, inl, inr, ℕ, List, Option, Some, Result, Ok, Err, ap, subst, sym, ◌∙◌}
-use Rattle.mac_base.specs.Input.{Input, ◌>>=◌}
+use Rattle.std.proofs.Common.{◌≡◌, inl, inr, ℕ, ◌<◌, List, [], ◌∷◌, length, Option, Some, None, Result, Ok, Err, ap, subst, sym, ◌∙◌, arith, length-append}
+use Rattle.mac_base.specs.Input.{Input, rest, ◌>>=◌}
+use Rattle.mac_base.specs.Spelling.{Between}
 use Rattle.mac_base.specs.SectionBytes.{SectionBytes}
-use Rattle.unit_header.specs.Header.{header_of}
+use Rattle.unit_header.specs.Header.{Header, header_of}
 use Rattle.unit_header.specs.declared.fault.UnitFault.{UnitFault}
 use Rattle.macro_opcodes.specs.Entry.{Entry}
 use Rattle.macro_opcodes.specs.Reading.{entry_at}
+use Rattle.macro_opcodes.specs.Spells.{IsEntry}
+use Rattle.macro_opcodes.proofs.EntryLemmas.{entry_takes, close_takes}
 use Rattle.import_graph.specs.declared.fault.FileFault.{FileFault}
 use Rattle.import_graph.specs.declared.unit.OpenUnit.{OpenUnit}
 use Rattle.import_graph.specs.declared.unit.Turn.{Turn as HeldTurn}
@@ -38,3 +41,15 @@ pub said_turn : (s : SectionBytes) (lent : Lent) (paths : List (List ℕ)) (old 
     entry_at (header_of old.header) old.cursor ≡ Ok (Some e, q) → new.cursor ≡ q → EntrySays s lent paths e (record old { cursor = q }) new r → TurnSays s lent paths old new r
 said_turn s lent paths old new q e r read place says =
     said_here s lent paths old new e r (read ∙ ap (λ (i : Input). Ok (Some e, i)) (sym place)) (subst (λ (i : Input). EntrySays s lent paths e (record old { cursor = i }) new r) (sym place) says)
+
+some_bytes : (h : Header) (bytes : List ℕ) (e : Entry) → IsEntry h bytes e → 0 < length bytes
+some_bytes h [] e is = absurd is
+some_bytes h (b ∷ bytes) e is = omega arith
+
+less_left : (p q : Input) (bytes : List ℕ) → Between p q bytes → 0 < length bytes → length (rest q) < length (rest p)
+less_left p q bytes between some = omega (arith, ap length between.front, length-append bytes (rest q))
+
+-- the cursor moves on behind an entry, and behind the closing 0
+pub moves_by : (h : Header) (p q : Input) (o : Option Entry) → entry_at h p ≡ Ok (o, q) → length (rest q) < length (rest p)
+moves_by h p q (Some e) is = let found = entry_takes h p q e is in less_left p q found.0 found.1 (some_bytes h found.0 e found.2)
+moves_by h p q None is = less_left p q (0 ∷ []) (close_takes h p q is) (omega arith)

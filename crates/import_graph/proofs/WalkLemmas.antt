@@ -1,5 +1,5 @@
 -- A walk with a list of open units is the walk that enters each unit at its first import.
-use Rattle.std.proofs.Common.{◌≡◌, ℕ, IsTrue, IsFalse, List, [], ◌∷◌, map, Result, Ok, Err, refl, sym, subst, ◌∙◌}
+use Rattle.std.proofs.Common.{◌≡◌, ℕ, IsTrue, IsFalse, List, [], ◌∷◌, Result, Ok, Err, refl, sym, subst, ◌∙◌}
 use Rattle.mac_base.specs.Input.{Input}
 use Rattle.mac_base.specs.SectionBytes.{SectionBytes}
 use Rattle.info_roots.specs.declared.root.Root.{Root}
@@ -8,29 +8,8 @@ use Rattle.import_graph.specs.declared.fault.FileFault.{FileFault}
 use Rattle.import_graph.specs.Faults.{fault_at}
 use Rattle.import_graph.specs.Meaning.{Lent}
 use Rattle.import_graph.specs.Units.{Reader, begun, root_begun, lent_by}
+use Rattle.import_graph.specs.Progress.{Level, around, After, Left}
 use Rattle.import_graph.specs.Walk.{Ends, Passes, Enters, turn_at, is_among, Walk, Finishes, Stops, Goes, Again, Cycle, Bars, Fails, Returns, RootWalk, Walks}
-
--- a unit that is being walked: where it begins, how its entries are read, how many of its files are open, and where its next entry is
-pub record Level : Type 0 where
-  pub at : ℕ
-  pub unit : Reader
-  pub files : ℕ
-  pub place : Input
-
--- the offsets of these units
-abbrev pub around : List Level → List ℕ
-around levels = map (λ (l : Level). l.at) levels
-
--- a unit that was walked to this answer leaves the rest, or the fault
-abbrev pub After : (List ℕ → Type 0) → ℕ → Result (List ℕ) FileFault → Result (List ℕ) FileFault → Type 0
-After rest at answer (Ok more) = rest (at ∷ more)
-After rest at answer (Err fault) = answer ≡ Err fault
-
--- what is left of the walk, with these units open, the innermost first, and these walked whole, comes to this answer
-abbrev pub Left : SectionBytes → Lent → List Level → List ℕ → Result (List ℕ) FileFault → Type 0
-Left s lent [] walked answer = answer ≡ Ok walked
-Left s lent (l ∷ levels) walked answer =
-    (inner : Result (List ℕ) FileFault) × Walk s lent l.unit (l.at ∷ around levels) walked l.files l.place inner × After (λ more. Left s lent levels more answer) l.at answer inner
 
 pub left_stops : (s : SectionBytes) (lent : Lent) (l : Level) (levels : List Level) (walked : List ℕ) (fault : FileFault) →
     turn_at s lent l.unit l.files l.place ≡ Err fault → Left s lent (l ∷ levels) walked (Err fault)

@@ -1,5 +1,6 @@
 -- What a graph is to its callers, and what reading one answers.
-use Rattle.std.specs.Prelude.{◌≡◌, ◌⊎◌, ℕ, ◌≤◌, ◌<◌, List, length, map, Err}
+use Rattle.std.specs.Prelude.{◌≡◌, ◌⊎◌, ℕ, ◌≤◌, ◌<◌, List, [], ◌∷◌, length, map, Option, Some, None, Result, Ok, Err}
+use Rattle.mac_base.specs.declared.memory.NoMemory.{NoMemory}
 use Rattle.mac_base.specs.SectionBytes.{SectionBytes}
 use Rattle.info_roots.specs.declared.root.Root.{Root}
 use Rattle.unit_header.specs.declared.fault.UnitKind.TheVariants.{TooManyEntries}
@@ -8,7 +9,8 @@ use Rattle.import_graph.specs.declared.fault.FileFault.{FileFault}
 use Rattle.import_graph.specs.Faults.{fault_at}
 use Rattle.import_graph.specs.Splice.{RootSplice}
 use Rattle.import_graph.specs.Walk.{RootWalk, HasNoFault}
-use Rattle.import_graph.specs.Numbers.{path_in}
+use Rattle.import_graph.specs.declared.spliced.Spliced.{Spliced}
+use Rattle.import_graph.specs.Numbers.{path_in, item_of}
 
 -- the most items that a root may stand for
 abbrev pub most_items : ℕ
@@ -36,3 +38,9 @@ IsTooMuch s root = HasNoFault s root × (items : List (Item (List ℕ))) × Root
 -- the first fault of a root: that of its walk, or behind that one that it stands for too much
 abbrev pub IsFirstFault : SectionBytes → Root → FileFault → Type 0
 IsFirstFault s root fault = RootWalk s root (Err fault) ⊎ ((fault ≡ fault_at root.macros TooManyEntries) × IsTooMuch s root)
+
+-- what a call answers that takes the next item off these; where memory runs out, none is left
+abbrev pub NextSays : Option (Result Spliced NoMemory) → List (Item ℕ) → List (Item ℕ) → Type 0
+NextSays None old new = (old ≡ []) × (new ≡ [])
+NextSays (Some (Ok spliced)) old new = old ≡ item_of spliced ∷ new
+NextSays (Some (Err ran_out)) old new = new ≡ []

@@ -8,3 +8,6 @@ pub mod Numbers
 pub mod Tables
 pub mod Turns
 pub mod Nodes
+pub mod Progress
+pub mod Rest
+pub mod Laws

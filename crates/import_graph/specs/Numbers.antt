@@ -1,5 +1,5 @@
 -- How files are named by the numbers of their paths, and how a call answers what is looked up.
-use Rattle.std.specs.Prelude.{◌≡◌, ℕ, ◌-◌, ◌≤◌, List, [], take, drop, length, slice_get, unwrap_or, Option, Some, None, Result, Ok, Err}
+use Rattle.std.specs.Prelude.{◌≡◌, ℕ, ◌-◌, ◌≤◌, ◌<◌, List, [], take, drop, length, slice_get, unwrap_or, Option, Some, None, Result, Ok, Err}
 use Rattle.std.specs.Option.{option_map}
 use Rattle.macro_table.specs.Items.{Item, Define, Undef, Start, End, renamed}
 use Rattle.import_graph.specs.declared.spliced.Spliced.{Spliced as HeldSpliced}
@@ -10,6 +10,12 @@ use Rattle.import_graph.specs.declared.meaning.Lookup.{Lookup}
 use Rattle.import_graph.specs.declared.meaning.Meaning.{Meaning as HeldMeaning}
 use Rattle.import_graph.specs.declared.meaning.Meaning.TheVariants.{Plain as HeldPlain, Imports as HeldImports, Nothing as HeldNothing}
 use Rattle.import_graph.specs.Meaning.{Lent, offsets_of, Meaning, Plain, Imports, Nothing}
+
+-- an import names a unit inside a section of n bytes
+abbrev pub IsInside : ℕ → HeldMeaning → Type 0
+IsInside n (HeldPlain spliced) = Unit {0}
+IsInside n (HeldImports at) = at < n
+IsInside n HeldNothing = Unit {0}
 
 -- the path of a number
 abbrev pub path_in : List (List ℕ) → ℕ → List ℕ

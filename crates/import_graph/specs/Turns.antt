@@ -1,6 +1,6 @@
 -- What a turn of the walk makes of the unit that is being read.
-use Rattle.std.specs.Prelude.{◌≡◌, ℕ, ◌+◌, min, List, [], ◌∷◌, ◌++◌, Some, None, Result, Ok, Err}
-use Rattle.mac_base.specs.Input.{◌>>=◌}
+use Rattle.std.specs.Prelude.{◌≡◌, ℕ, ◌+◌, ◌<◌, min, length, List, [], ◌∷◌, ◌++◌, Some, None, Result, Ok, Err}
+use Rattle.mac_base.specs.Input.{◌>>=◌, rest}
 use Rattle.mac_base.specs.SectionBytes.{SectionBytes}
 use Rattle.unit_header.specs.Header.{header_of}
 use Rattle.macro_opcodes.specs.Entry.{Entry}
@@ -12,7 +12,8 @@ use Rattle.import_graph.specs.declared.unit.OpenUnit.{OpenUnit}
 use Rattle.import_graph.specs.declared.unit.Turn.{Turn as HeldTurn}
 use Rattle.import_graph.specs.declared.unit.Turn.TheVariants.{Ends as HeldEnds, Passes as HeldPasses, Enters as HeldEnters}
 use Rattle.import_graph.specs.Faults.{IsFaultOf, entry_part}
-use Rattle.import_graph.specs.Numbers.{named_item, paths_of}
+use Rattle.import_graph.specs.Numbers.{item_of, named_item, paths_of}
+use Rattle.import_graph.specs.Nodes.{AreNumbered}
 use Rattle.import_graph.specs.Meaning.{Lent, Meaning, Plain, Imports, Nothing, meaning}
 use Rattle.import_graph.specs.Units.{Reader}
 use Rattle.import_graph.specs.Walk.{Turn, Passes, turn_by, turn_at}
@@ -31,7 +32,7 @@ IsSameUnit old new = (new.at ≡ old.at) × (new.header ≡ old.header) × (new.
 
 -- what was read grows by what an entry says itself
 abbrev pub Took : List (List ℕ) → Meaning → OpenUnit → OpenUnit → Type 0
-Took paths (Plain item) old new = (spliced : Spliced) × (item ≡ named_item paths spliced) × (new.links.items ≡ old.links.items ++ Own spliced ∷ []) × (new.count ≡ together old.count 1)
+Took paths (Plain item) old new = (spliced : Spliced) × (item ≡ named_item paths spliced) × AreNumbered (length paths) (item_of spliced ∷ []) × (new.links.items ≡ old.links.items ++ Own spliced ∷ []) × (new.count ≡ together old.count 1)
 Took paths (Imports target) old new = (new.links.items ≡ old.links.items) × (new.count ≡ old.count)
 Took paths Nothing old new = (new.links.items ≡ old.links.items) × (new.count ≡ old.count)
 
@@ -56,3 +57,13 @@ TurnSays s lent paths old new (Ok HeldPasses) =
 TurnSays s lent paths old new (Ok (HeldEnters at target)) =
     (e : Entry) × (entry_at (header_of old.header) old.cursor ≡ Ok (Some e, new.cursor)) × EntrySays s lent paths e (record old { cursor = new.cursor }) new (Ok (HeldEnters at target))
 TurnSays s lent paths old new (Err fault) = IsFaultOf (turn_at s lent (reader_of paths old) old.open_files old.cursor) fault
+
+-- the cursor moved on, unless there is a fault
+abbrev pub MovesOn : OpenUnit → OpenUnit → Type 0
+MovesOn old new = length (rest new.cursor) < length (rest old.cursor)
+
+-- an import names a unit inside a section of n bytes
+abbrev pub EntersInside : ℕ → HeldTurn → Type 0
+EntersInside n HeldEnds = Unit {0}
+EntersInside n HeldPasses = Unit {0}
+EntersInside n (HeldEnters at target) = target < n

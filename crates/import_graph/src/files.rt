@@ -1,4 +1,4 @@
-ghost use Rattle.std.specs.Prelude.{◌≡◌, List, ℕ, [], ◌++◌, length, IfOk, IfErr, OnErr, Ok, ◌<◌, ◌^◌};
+ghost use Rattle.std.specs.Prelude.{◌≡◌, List, ℕ, [], ◌++◌, length, IfOk, IfErr, OnOk, OnErr, Ok, ◌<◌, ◌^◌};
 ghost use Rattle.std.specs.Ordering.{nat_cmp};
 ghost use Rattle.std.specs.BTreeMap.{get};
 ghost use Rattle.mac_base.specs.SectionBytes.{SectionBytes, bytes_of};
@@ -6,7 +6,7 @@ ghost use Rattle.line_names.specs.Entries.{tables_in};
 ghost use Rattle.line_names.specs.Files.{files_of};
 ghost use Rattle.import_graph.specs.Faults.{line_part, IsFaultOf};
 ghost use Rattle.import_graph.specs.Meaning.{Lent};
-ghost use Rattle.import_graph.specs.Units.{unit_paths};
+ghost use Rattle.import_graph.specs.Units.{unit_paths, root_paths};
 ghost use Rattle.import_graph.specs.Numbers.{paths_of, Fits};
 ghost use Rattle.import_graph.specs.Tables.{IsRange, IsLent};
 
@@ -30,13 +30,14 @@ pub struct FileLists<'a> {
 
 impl<'a> Model for FileLists<'a> {
     ghost use Rattle.line_names.specs.Entries.{tables_of};
+    ghost use Rattle.std.specs.Prelude.{◌<◌, ◌^◌, length};
     ghost use Rattle.import_graph.specs.Tables.{FilesRead, AreRanges};
 
     ghost Value = { FilesRead };
 
     ghost view = { λ f. record { tables = tables_of f.tables; paths = f.paths.items } };
 
-    ghost invariant = { λ f. AreRanges (tables_of f.tables) f.paths.items f.known };
+    ghost invariant = { λ f. AreRanges (tables_of f.tables) f.paths.items f.known × (length f.paths.items < 2 ^ 32) };
 }
 
 impl<'a> FileLists<'a> {
@@ -92,9 +93,27 @@ impl<'a> FileLists<'a> {
         Ok(Some(self.at(alloc, off)?))
     }
 
+    /// The files of a root, if it names a line table.
+    pub fn of_root(
+        &mut self,
+        alloc: Global,
+        line: Option<u64>,
+    ) -> Result<Option<FileRange>, FileFault>
+        ensures ok { IfOk result (λ files. (s : SectionBytes) → self.old.tables ≡ tables_in s → (root_paths s line ≡ Ok (paths_of self.new.paths files)) × Fits self.new.paths files) }
+        ensures err { IfErr result (λ fault. (s : SectionBytes) → self.old.tables ≡ tables_in s → IsFaultOf (root_paths s line) fault) }
+        ensures same { self.new.tables ≡ self.old.tables }
+    {
+        let Some(off) = line else {
+            return Ok(None);
+        };
+        let range = self.at(alloc, off)?;
+        Ok(Some(range))
+    }
+
     /// All paths that were read.
     pub fn into_paths(self) -> Vec<Bytes>
-        ensures { result.items ≡ self.entry.paths }
+        ensures paths { result.items ≡ self.entry.paths }
+        ensures few { length result.items < 2 ^ 32 }
     {
         let FileLists { paths, .. } = self;
         paths
@@ -111,6 +130,7 @@ fn range_at(known: &BTreeMap<u64, FileRange>, off: u64) -> Option<FileRange>
 /// Puts the paths of a line table behind the others.
 fn append(paths: &mut Vec<Bytes>, more: Vec<Bytes>) -> Result<FileRange, NoMemory>
     ensures ok { IfOk result (λ range. (paths.new.items ≡ paths.old.items ++ more.items) × (range.first ≡ length paths.old.items) × (range.end ≡ length paths.new.items)) }
+    ensures few { OnOk result (length paths.new.items < 2 ^ 32) }
     ensures err { OnErr result (paths.new.items ≡ paths.old.items) }
 {
     let mut more = more;
@@ -122,7 +142,8 @@ fn append(paths: &mut Vec<Bytes>, more: Vec<Bytes>) -> Result<FileRange, NoMemor
 
 /// The number of a path. Where there are more than have numbers, memory has run out.
 fn number(count: usize) -> Result<u32, NoMemory>
-    ensures { IfOk result (λ n. n ≡ count) }
+    ensures number { IfOk result (λ n. n ≡ count) }
+    ensures few { OnOk result (count < 2 ^ 32) }
 {
     match u32::try_from(count) {
         Ok(n) => Ok(n),

@@ -1,9 +1,10 @@
-ghost use Rattle.std.specs.Prelude.{◌≡◌, ℕ, List};
+ghost use Rattle.std.specs.Prelude.{◌≡◌, ℕ, ◌<◌, List, length, IfOk};
 ghost use Rattle.string_sections.specs.Strings.{string_of};
 ghost use Rattle.mac_base.specs.SectionBytes.{SectionBytes};
 ghost use Rattle.macro_opcodes.specs.Entry.{operand_of, entry_of};
 ghost use Rattle.import_graph.specs.Meaning.{Lent, text_of, path_of, string_found, target_of, meaning};
-ghost use Rattle.import_graph.specs.Numbers.{IsLookup, Says, Fits, path_in, paths_of, meaning_of};
+ghost use Rattle.import_graph.specs.Numbers.{IsInside, IsLookup, Says, Fits, path_in, paths_of, meaning_of};
+ghost use Rattle.import_graph.specs.Nodes.{IsNumbered};
 
 use crate::spliced::Spliced;
 use macro_opcodes::{Operand, RawEntry};
@@ -48,8 +49,10 @@ impl<'a> Lookup<'a> {
         files: Option<FileRange>,
         entry: RawEntry<'a>,
     ) -> Result<Meaning<'a>, UnitKind>
-        ensures { (s : SectionBytes) (lent : Lent) (paths : List (List ℕ)) → IsLookup self.now s lent → Fits paths files →
+        ensures says { (s : SectionBytes) (lent : Lent) (paths : List (List ℕ)) → IsLookup self.now s lent → Fits paths files →
             Says (meaning_of paths) result (meaning s lent (paths_of paths files) (entry_of entry.entry)) }
+        ensures numbered { IfOk result (λ found. (paths : List (List ℕ)) → Fits paths files → IsNumbered (length paths) found) }
+        ensures inside { IfOk result (λ found. IsInside (length self.now.macros.now) found) }
     {
         let line = entry.line;
         match Opcode::of(entry.opcode) {
@@ -106,7 +109,8 @@ impl<'a> Lookup<'a> {
 
     /// The offset of the unit that an import names.
     fn target(&self, operand: Operand<'_>) -> Result<u64, UnitKind>
-        ensures { Says (λ off. off) result (target_of self.now.macros.now (operand_of operand.entry)) }
+        ensures says { Says (λ off. off) result (target_of self.now.macros.now (operand_of operand.entry)) }
+        ensures inside { IfOk result (λ off. off < length self.now.macros.now) }
     {
         match operand {
             Operand::Macro(off) if off < self.macros.len() as u64 => Ok(off),
@@ -117,7 +121,8 @@ impl<'a> Lookup<'a> {
 
 /// The number of the path of a file that begins.
 fn file_number(files: Option<FileRange>, operand: Operand<'_>) -> Result<u32, UnitKind>
-    ensures { (paths : List (List ℕ)) → Fits paths files → Says (path_in paths) result (path_of (paths_of paths files) (operand_of operand.entry)) }
+    ensures says { (paths : List (List ℕ)) → Fits paths files → Says (path_in paths) result (path_of (paths_of paths files) (operand_of operand.entry)) }
+    ensures numbered { IfOk result (λ file. (paths : List (List ℕ)) → Fits paths files → file < length paths) }
 {
     let Operand::File(index) = operand else {
         return Err(UnitKind::FileIndex);

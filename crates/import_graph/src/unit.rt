@@ -1,4 +1,4 @@
-ghost use Rattle.std.specs.Prelude.{◌≡◌, ℕ, List, [], ◌∷◌, ◌++◌, OnOk, IfOk, IfErr, Ok, ◌==◌, if◌then◌else◌};
+ghost use Rattle.std.specs.Prelude.{◌≡◌, ℕ, List, length, [], ◌∷◌, ◌++◌, OnOk, IfOk, IfErr, Ok, ◌==◌, if◌then◌else◌};
 ghost use Rattle.mac_base.specs.SectionBytes.{SectionBytes};
 ghost use Rattle.macro_opcodes.specs.Entry.{entry_of};
 ghost use Rattle.import_graph.specs.declared.node.Link.TheVariants.{Own, Import};
@@ -6,7 +6,7 @@ ghost use Rattle.import_graph.specs.Faults.{IsFaultOf, entry_part, fault_at};
 ghost use Rattle.import_graph.specs.Meaning.{Lent};
 ghost use Rattle.import_graph.specs.Numbers.{IsLookup, Fits, named_item};
 ghost use Rattle.import_graph.specs.Walk.{files_behind};
-ghost use Rattle.import_graph.specs.Turns.{together, IsSameUnit, EntrySays, TurnSays};
+ghost use Rattle.import_graph.specs.Turns.{together, IsSameUnit, MovesOn, EntersInside, EntrySays, TurnSays};
 
 use crate::fault::FileFault;
 use crate::meaning::{FileRange, Lookup, Meaning};
@@ -56,6 +56,8 @@ impl<'a> OpenUnit<'a> {
         ensures turn { (s : SectionBytes) (lent : Lent) (paths : List (List ℕ)) → IsLookup lookup.now s lent → Fits paths self.old.files →
             TurnSays s lent paths self.old self.new result }
         ensures same { IsSameUnit self.old self.new }
+        ensures moves { OnOk result (MovesOn self.old self.new) }
+        ensures inside { IfOk result (λ turn. EntersInside (length lookup.now.macros.now) turn) }
     {
         let place = self.cursor.at() as u64;
         match read_entry(&mut self.cursor, &self.header, steps)? {
@@ -71,6 +73,7 @@ impl<'a> OpenUnit<'a> {
             EntrySays s lent paths (entry_of entry.entry) self.old self.new result }
         ensures same { IsSameUnit self.old self.new }
         ensures place { self.new.cursor ≡ self.old.cursor }
+        ensures inside { IfOk result (λ turn. EntersInside (length lookup.now.macros.now) turn) }
     {
         match lookup.meaning(self.files, entry) {
             Ok(Meaning::Plain(spliced)) => {
