@@ -1,0 +1,8 @@
+pub mod ScanLemmas
+pub mod NumberLemmas
+pub mod FileLemmas
+pub mod DraftLemmas
+pub mod TableLemmas
+pub mod KeptLemmas
+pub mod ParseLemmas
+pub mod SpellingLemmas

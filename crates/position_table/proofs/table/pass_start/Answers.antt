@@ -1,0 +1,20 @@
+use Rattle.std.proofs.Common.{◌≡◌, ℕ, ◌+◌, ◌-◌, List, take, drop, ap, sym, ◌∙◌, arith}
+use Rattle.import_graph.specs.Numbers.{item_of}
+use Rattle.macro_table.specs.Items.{Item}
+use Rattle.position_table.specs.Standing.{Standing, behind_all}
+use Rattle.position_table.proofs.ScanLemmas.{taken}
+use Rattle.position_table.proofs.TableLemmas.{take_first, drop_first}
+use Rattle.position_table.proofs.table.pass_start.Goals as goal
+
+pub loop-entry-preserved : goal.loop-entry-preserved
+loop-entry-preserved c =
+    let item = item_of c.in_ok-entry.field-0 in
+    let rest = c.next.new.self in
+    let before = taken c.in-Some.entry c.in_ok-entry.field-0 c.loop-entry.entries rest c.in_ok-entry.was c.in-Some.ensures.steps in
+    let less : c.loop-entry.before - 1 + 1 ≡ c.loop-entry.before = omega arith in
+    record {
+      passed = ap (λ n. behind_all c.pass.new.self (take n rest)) less ∙ ap (λ (s : Standing). behind_all s (take c.loop-entry.before rest)) c.in_ok-pass.ensures
+          ∙ sym (take_first c.loop-entry.draft item rest c.loop-entry.before) ∙ ap (λ (items : List (Item ℕ)). behind_all c.loop-entry.draft (take (c.loop-entry.before + 1) items)) (sym before)
+          ∙ c.loop-entry.invariant.passed;
+      left = ap (λ n. drop n rest) less ∙ sym (drop_first item rest c.loop-entry.before) ∙ ap (drop (c.loop-entry.before + 1)) (sym before) ∙ c.loop-entry.invariant.left;
+    }
