@@ -11,3 +11,5 @@ mod raw;
 mod stage;
 #[cfg(test)]
 mod unit;
+#[cfg(test)]
+mod whole;

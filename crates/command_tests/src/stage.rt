@@ -62,6 +62,21 @@ pub fn refuses<'a>(
     }
 }
 
+/// A run whose words fit no command.
+pub fn usage<'a>(words: &'a [&'a [u8]], name: &'a [u8], file: &'a [u8]) -> Case<'a> {
+    Case {
+        words,
+        name,
+        file,
+        shelf_fails: &[],
+        out_fails: &[],
+        err_fails: &[],
+        status: Status::Usage,
+        out: b"",
+        err: b"dwmac: usage\n",
+    }
+}
+
 fn bytes_of(alloc: Global, bytes: &[u8]) -> Result<Bytes, NoMemory> {
     Ok(Bytes::from_vec(Vec::from_slice(alloc, bytes)?))
 }

@@ -1,18 +1,14 @@
 -- What a run has to say, by its words and the files alone.
-use Rattle.std.specs.Prelude.{◌≡◌, ◌⊎◌, ◌<◌, ◌≤◌, ℕ, nat_lt, List, length, Option, Some, None}
+use Rattle.std.specs.Prelude.{◌≡◌, ◌<◌, ℕ, nat_lt, List, length, Option, Some, None, Result, Ok, Err}
 use Rattle.std.specs.Bool.{MatchBool}
-use Rattle.mac_base.specs.SectionBytes.{SectionBytes}
 use Rattle.mac_io.specs.Files.{Files, IsFileAt}
-use Rattle.section_views.specs.declared.fault.ElfFault.{ElfFault}
-use Rattle.section_views.specs.Faults.{first_fault}
-use Rattle.section_views.specs.View.{view_of}
-use Rattle.unit_header.specs.declared.fault.UnitFault.{UnitFault}
-use Rattle.unit_header.specs.declared.fault.UnitKind.TheVariants.{ImportRange}
-use Rattle.dwmac_run.specs.declared.refusal.Refusal.TheVariants.{NoSuchFile, FileTooLong, Elf, Unit as BadUnit}
-use Rattle.dwmac_run.specs.Command.{Command, Raw, UnitAt, Help, Version, command_of}
+use Rattle.macro_query.specs.declared.fault.QueryFault.{QueryFault}
+use Rattle.macro_query.specs.Limits.{within_limit}
+use Rattle.macro_query.specs.Queries.{RawSays, UnitAtSays, DumpSays, InfoSays, ListSays}
+use Rattle.dwmac_run.specs.declared.refusal.Refusal.TheVariants.{NoSuchFile, FileTooLong}
+use Rattle.dwmac_run.specs.Command.{Command, Raw, UnitAt, Dump, Info, ListAt, Help, Version, command_of}
 use Rattle.dwmac_run.specs.Help.{help_text, version_text}
-use Rattle.dwmac_run.specs.Unit.{IsReportOf, IsFirstFault}
-use Rattle.dwmac_run.specs.Refusals.{refusal_line, long_report_line}
+use Rattle.dwmac_run.specs.Refusals.{refusal_line, fault_line}
 
 -- a text for `out`, a line for `err`, or that the words fit no command
 pub data Answer : Type 0 where
@@ -24,34 +20,14 @@ pub data Answer : Type 0 where
 abbrev pub most_bytes : ℕ
 most_bytes = 1073741824
 
--- the most bytes that a report may have
-abbrev pub most_report : ℕ
-most_report = 1073741824
+-- What is said to a query about this file is a report, or a fault that is told by a line.
+abbrev pub answer_by : List ℕ → Result (List ℕ) QueryFault → Answer
+answer_by file (Ok text) = Prints text
+answer_by file (Err fault) = Refuses (fault_line file fault)
 
--- the first fault of what stands at the offset is told by this line
-abbrev pub TellsFault : List ℕ → Option (List ℕ) → List ℕ → ℕ → List ℕ → Type 0
-TellsFault file strs section offset line = (fault : UnitFault) × IsFirstFault strs section offset fault × (line ≡ refusal_line file (BadUnit fault))
-
--- the report is too long, which is told by this line
-abbrev pub TellsLength : Option (List ℕ) → List ℕ → ℕ → List ℕ → Type 0
-TellsLength strs section offset line = (text : List ℕ) × IsReportOf strs section offset text × (most_report < length text) × (line ≡ long_report_line)
-
--- on the unit at an offset of a section: the report, the first fault, or that the report is too long
-abbrev pub UnitAnswer : List ℕ → Option (List ℕ) → List ℕ → ℕ → Answer → Type 0
-UnitAnswer file strs section offset (Prints text) = IsReportOf strs section offset text × (length text ≤ most_report)
-UnitAnswer file strs section offset (Refuses line) = TellsFault file strs section offset line ⊎ TellsLength strs section offset line
-UnitAnswer file strs section offset Misuse = ⊥
-
--- an offset that is not inside the section names no unit
-abbrev pub SectionAnswer : List ℕ → SectionBytes → ℕ → Answer → Type 0
-SectionAnswer file view offset answer =
-    MatchBool (nat_lt offset (length view.macros)) (UnitAnswer file (Some view.strs) view.macros offset answer)
-    (answer ≡ Refuses (refusal_line file (BadUnit (record { at = offset; what = ImportRange }))))
-
--- a file with a fault of its headers, or its sections
-abbrev pub ElfAnswer : List ℕ → List ℕ → ℕ → Option ElfFault → Answer → Type 0
-ElfAnswer file bytes offset (Some fault) answer = answer ≡ Refuses (refusal_line file (Elf fault))
-ElfAnswer file bytes offset None answer = SectionAnswer file (view_of bytes) offset answer
+-- the answer to a query about this file, to which this is to be said
+abbrev pub QueryAnswer : List ℕ → (Result (List ℕ) QueryFault → Type 0) → Answer → Type 0
+QueryAnswer file Says answer = (said : Result (List ℕ) QueryFault) × Says said × (answer ≡ answer_by file (within_limit said))
 
 -- the answer where there is no file, or too many bytes
 abbrev pub NoFileAnswer : List ℕ → Option (List ℕ) → Answer → Type 0
@@ -67,13 +43,18 @@ abbrev pub FileAnswer : List ℕ → Option (List ℕ) → (List ℕ → Type 0)
 FileAnswer file None read answer = answer ≡ Refuses (refusal_line file NoSuchFile)
 FileAnswer file (Some bytes) read answer = MatchBool (nat_lt most_bytes (length bytes)) (answer ≡ Refuses (refusal_line file FileTooLong)) (read bytes)
 
+-- the answer to a query about what stands at a file's name, to whose bytes this is to be said
+abbrev pub AboutFile : Option Files → List ℕ → (List ℕ → Result (List ℕ) QueryFault → Type 0) → Answer → Type 0
+AboutFile told file Says answer = (content : Option (List ℕ)) × IsFileAt told file content × FileAnswer file content (λ bytes. QueryAnswer file (Says bytes) answer) answer
+
 -- the answer to a command, or to words that fit none
 abbrev pub AnswerTo : Option Command → Option Files → Answer → Type 0
 AnswerTo None told answer = answer ≡ Misuse
-AnswerTo (Some (Raw file)) told answer =
-    (content : Option (List ℕ)) × IsFileAt told file content × FileAnswer file content (λ bytes. UnitAnswer file None bytes 0 answer) answer
-AnswerTo (Some (UnitAt file offset)) told answer =
-    (content : Option (List ℕ)) × IsFileAt told file content × FileAnswer file content (λ bytes. ElfAnswer file bytes offset (first_fault bytes) answer) answer
+AnswerTo (Some (Raw file)) told answer = AboutFile told file RawSays answer
+AnswerTo (Some (UnitAt file offset)) told answer = AboutFile told file (UnitAtSays offset) answer
+AnswerTo (Some (Dump file)) told answer = AboutFile told file DumpSays answer
+AnswerTo (Some (Info file position name)) told answer = AboutFile told file (InfoSays position name) answer
+AnswerTo (Some (ListAt file position)) told answer = AboutFile told file (ListSays position) answer
 AnswerTo (Some Help) told answer = answer ≡ Prints help_text
 AnswerTo (Some Version) told answer = answer ≡ Prints version_text
 

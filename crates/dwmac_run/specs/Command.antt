@@ -4,7 +4,10 @@ use Rattle.std.specs.Option.{option_map}
 use Rattle.std.specs.List.{list_any}
 use Rattle.std.specs.Str.{bytes_eq}
 use Rattle.dwmac_run.specs.declared.command.Command.{Command as HeldCommand}
-use Rattle.dwmac_run.specs.declared.command.Command.TheVariants.{Raw as HeldRaw, Unit as HeldUnit, Help as HeldHelp, Version as HeldVersion}
+use Rattle.dwmac_run.specs.declared.command.Command.TheVariants.{Raw as HeldRaw, Unit as HeldUnit, Dump as HeldDump, Info as HeldInfo, List as HeldList, Help as HeldHelp, Version as HeldVersion}
+use Rattle.position_table.specs.declared.position.Position.{Position}
+use Rattle.position_table.specs.declared.position.Position.TheVariants.{Chain, Named}
+use Rattle.position_table.specs.Positions.{position_of}
 
 -- a command with its words
 pub data Command : Type 0 where
@@ -12,6 +15,12 @@ pub data Command : Type 0 where
   Raw : List ℕ → Command
   -- the report on the unit at this offset of the file's section of macro units
   UnitAt : List ℕ → ℕ → Command
+  -- the macro information of all roots of this file
+  Dump : List ℕ → Command
+  -- the definition of this name at this position in the file
+  Info : List ℕ → Position → List ℕ → Command
+  -- all definitions at this position in the file
+  ListAt : List ℕ → Position → Command
   -- how the program is called
   Help : Command
   -- which program it is
@@ -21,6 +30,9 @@ pub data Command : Type 0 where
 abbrev pub plain : HeldCommand → Command
 plain (HeldRaw file) = Raw file.now
 plain (HeldUnit file offset) = UnitAt file.now offset
+plain (HeldDump file) = Dump file.now
+plain (HeldInfo file position name) = Info file.now position name.now
+plain (HeldList file position) = ListAt file.now position
 plain HeldHelp = Help
 plain HeldVersion = Version
 
@@ -58,18 +70,43 @@ offset_of (a ∷ b ∷ digits) =
 abbrev pub command_of_one : List ℕ → Option Command
 command_of_one word = if bytes_eq word (codes "--help") then Some Help else if bytes_eq word (codes "--version") then Some Version else None
 
--- `raw FILE`
-abbrev pub command_of_two : List ℕ → List ℕ → Option Command
-command_of_two verb file = if bytes_eq verb (codes "raw") && is_file_word file then Some (Raw file) else None
+-- A word that is a name is not empty and holds no NUL. It may begin with `-`.
+abbrev pub is_name_word : List ℕ → Bool
+is_name_word [] = false
+is_name_word (b ∷ bytes) = not (list_any (λ c. c == 0) (b ∷ bytes))
 
--- `unit FILE OFF`
+-- a position that commands know: a chain of lines
+abbrev pub known_position : Option Position → Option Position
+known_position None = None
+known_position (Some (Chain unit lines line)) = Some (Chain unit lines line)
+known_position (Some (Named path line)) = None
+
+-- `raw FILE` and `dump FILE`
+abbrev pub command_of_two : List ℕ → List ℕ → Option Command
+command_of_two verb file =
+    if not (is_file_word file) then None
+    else if bytes_eq verb (codes "raw") then Some (Raw file)
+    else if bytes_eq verb (codes "dump") then Some (Dump file)
+    else None
+
+-- `unit FILE OFF` and `list FILE POS`
 abbrev pub command_of_three : List ℕ → List ℕ → List ℕ → Option Command
-command_of_three verb file offset = if bytes_eq verb (codes "unit") && is_file_word file then option_map (UnitAt file) (offset_of offset) else None
+command_of_three verb file place =
+    if not (is_file_word file) then None
+    else if bytes_eq verb (codes "unit") then option_map (UnitAt file) (offset_of place)
+    else if bytes_eq verb (codes "list") then option_map (ListAt file) (known_position (position_of place))
+    else None
+
+-- `info FILE POS NAME`
+abbrev pub command_of_four : List ℕ → List ℕ → List ℕ → List ℕ → Option Command
+command_of_four verb file place name =
+    if bytes_eq verb (codes "info") && (is_file_word file && is_name_word name) then option_map (λ position. Info file position name) (known_position (position_of place)) else None
 
 -- the command that the words fit
 abbrev pub command_of : List (List ℕ) → Option Command
 command_of [] = None
 command_of (word ∷ []) = command_of_one word
 command_of (verb ∷ file ∷ []) = command_of_two verb file
-command_of (verb ∷ file ∷ offset ∷ []) = command_of_three verb file offset
-command_of (verb ∷ file ∷ offset ∷ other ∷ words) = None
+command_of (verb ∷ file ∷ place ∷ []) = command_of_three verb file place
+command_of (verb ∷ file ∷ place ∷ name ∷ []) = command_of_four verb file place name
+command_of (verb ∷ file ∷ place ∷ name ∷ other ∷ words) = None

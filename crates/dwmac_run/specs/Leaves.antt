@@ -1,6 +1,7 @@
 -- What a run leaves of the texts of `out` and `err`, by its answer and its status.
 use Rattle.std.specs.Prelude.{◌≡◌, ℕ, List, ◌++◌, codes, Option, ◌⊎◌}
 use Rattle.mac_io.specs.Calls.{grown, GrowsByFront}
+use Rattle.dwmac_run.specs.Refusals.{no_memory_line}
 use Rattle.dwmac_run.specs.Answer.{Answer, Prints, Refuses, Misuse}
 use Rattle.dwmac_run.specs.declared.status.Status.{Status}
 use Rattle.dwmac_run.specs.declared.status.Status.TheVariants.{Ok, Refused, Usage, NoMemory, Outside}
@@ -8,10 +9,6 @@ use Rattle.dwmac_run.specs.declared.status.Status.TheVariants.{Ok, Refused, Usag
 -- the line on words that fit no command
 abbrev pub usage_line : List ℕ
 usage_line = codes "dwmac: usage\n"
-
--- the line on memory that ran out
-abbrev pub no_memory_line : List ℕ
-no_memory_line = codes "dwmac: no memory\n"
 
 -- the line on a shelf or a sink that failed
 abbrev pub outside_line : List ℕ

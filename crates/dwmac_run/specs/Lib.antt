@@ -1,11 +1,8 @@
 pub mod Command
 pub mod Help
-pub mod Report
-pub mod Unit
 pub mod Refusals
 pub mod Numbers
 pub mod Answer
 pub mod Leaves
 pub mod Outcome
-pub mod Telling
 pub mod Laws

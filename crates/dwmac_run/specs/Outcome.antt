@@ -1,10 +1,11 @@
 -- The answer that an outcome is, and how an outcome ends.
-use Rattle.std.specs.Prelude.{◌≡◌, ◌⊎◌, ℕ, List, Option, Some, None}
+use Rattle.std.specs.Prelude.{◌≡◌, ◌⊎◌, ℕ, List, Option, Some, None, Result, Ok, Err}
+use Rattle.macro_query.specs.declared.fault.QueryFault.{QueryFault}
+use Rattle.macro_query.specs.declared.fault.QueryFault.TheVariants.{Elf as QueryElf, Info as QueryInfo, Line as QueryLine, Unit as QueryUnit, NoSuchUnit as QueryNoSuchUnit, Position as QueryPosition, ReportTooLong, NoMemory as QueryRanOut}
 use Rattle.mac_io.specs.Calls.{grown}
 use Rattle.dwmac_run.specs.Answer.{Answer, Prints, Refuses, Misuse}
-use Rattle.dwmac_run.specs.Help.{help_text, version_text}
 use Rattle.dwmac_run.specs.Leaves.{Texts, IsCut, Leaves}
-use Rattle.dwmac_run.specs.Refusals.{refusal_line, long_report_line}
+use Rattle.dwmac_run.specs.Refusals.{refusal_line, long_report_line, fault_line}
 use Rattle.dwmac_run.specs.declared.status.Status.{Status}
 use Rattle.dwmac_run.specs.declared.status.Status.TheVariants.{Outside}
 use Rattle.dwmac_run.specs.declared.outcome.Outcome.{Outcome}
@@ -19,6 +20,18 @@ answer_of TooLong = Some (Refuses long_report_line)
 answer_of Usage = Some Misuse
 answer_of NoMemory = None
 answer_of Failed = None
+
+-- the answer that a query's report or fault is, where it isn't that memory ran out
+abbrev pub told_by : List ℕ → Result (List ℕ) QueryFault → Option Answer
+told_by file (Ok text) = Some (Prints text)
+told_by file (Err (QueryElf fault)) = Some (Refuses (fault_line file (QueryElf fault)))
+told_by file (Err (QueryInfo fault)) = Some (Refuses (fault_line file (QueryInfo fault)))
+told_by file (Err (QueryLine fault)) = Some (Refuses (fault_line file (QueryLine fault)))
+told_by file (Err QueryNoSuchUnit) = Some (Refuses (fault_line file QueryNoSuchUnit))
+told_by file (Err (QueryPosition fault)) = Some (Refuses (fault_line file (QueryPosition fault)))
+told_by file (Err (QueryUnit fault)) = Some (Refuses (fault_line file (QueryUnit fault)))
+told_by file (Err ReportTooLong) = Some (Refuses (fault_line file ReportTooLong))
+told_by file (Err QueryRanOut) = None
 
 -- the shelf failed
 abbrev pub HasFailed : Outcome → Type 0

@@ -1,17 +1,26 @@
-ghost use Rattle.std.specs.Prelude.{◌≡◌};
+ghost use Rattle.std.specs.Prelude.{◌≡◌, IfOk};
 ghost use Rattle.std.specs.Option.{option_map};
+ghost use Rattle.position_table.specs.Positions.{position_of};
 ghost use Rattle.dwmac_run.specs.Command as spec;
 
 use crate::offset::offset_of;
-use mac_base::Bytes;
+use mac_base::{Bytes, NoMemory};
+use position_table::{Position, PositionText, parse_position};
+use std::alloc::Global;
 
 /// A command, with its words.
-#[derive(Clone, Copy, Debug, PartialEq, Eq)]
+#[derive(Debug, Drop)]
 pub enum Command<'w> {
     /// `raw FILE`: the report on the unit at the front of the file.
     Raw(&'w [u8]),
     /// `unit FILE OFF`: the report on the unit at the offset of the file's `.debug_macro`.
     Unit(&'w [u8], u64),
+    /// `dump FILE`: the macro information of all roots of the file.
+    Dump(&'w [u8]),
+    /// `info FILE POS NAME`: the definition of the name at the position.
+    Info(&'w [u8], Position, &'w [u8]),
+    /// `list FILE POS`: all definitions at the position.
+    List(&'w [u8], Position),
     /// `--help`: how the program is called.
     Help,
     /// `--version`: which program it is.
@@ -19,16 +28,23 @@ pub enum Command<'w> {
 }
 
 /// The command that the words fit.
-pub fn command_of(words: &[Bytes]) -> Option<Command<'_>>
-    ensures { option_map spec.plain result ≡ spec.command_of words.now }
+pub fn command_of(alloc: Global, words: &[Bytes]) -> Result<Option<Command<'_>>, NoMemory>
+    ensures { IfOk result (λ command. option_map spec.plain command ≡ spec.command_of words.now) }
 {
     match words {
-        [word] => command_of_one(word.as_slice()),
-        [verb, file] => command_of_two(verb.as_slice(), file.as_slice()),
-        [verb, file, offset] => {
-            command_of_three(verb.as_slice(), file.as_slice(), offset.as_slice())
+        [word] => Ok(command_of_one(word.as_slice())),
+        [verb, file] => Ok(command_of_two(verb.as_slice(), file.as_slice())),
+        [verb, file, place] => {
+            command_of_three(alloc, verb.as_slice(), file.as_slice(), place.as_slice())
         }
-        _ => None,
+        [verb, file, place, name] => command_of_four(
+            alloc,
+            verb.as_slice(),
+            file.as_slice(),
+            place.as_slice(),
+            name.as_slice(),
+        ),
+        _ => Ok(None),
     }
 }
 
@@ -47,20 +63,49 @@ fn command_of_one<'w>(word: &[u8]) -> Option<Command<'w>>
 fn command_of_two<'w>(verb: &[u8], file: &'w [u8]) -> Option<Command<'w>>
     ensures { option_map spec.plain result ≡ spec.command_of_two verb.now file.now }
 {
-    if verb == b"raw".as_slice() && is_file_word(file) {
+    if !is_file_word(file) {
+        None
+    } else if verb == b"raw".as_slice() {
         Some(Command::Raw(file))
+    } else if verb == b"dump".as_slice() {
+        Some(Command::Dump(file))
     } else {
         None
     }
 }
 
-fn command_of_three<'w>(verb: &[u8], file: &'w [u8], offset: &[u8]) -> Option<Command<'w>>
-    ensures { option_map spec.plain result ≡ spec.command_of_three verb.now file.now offset.now }
+fn command_of_three<'w>(
+    alloc: Global,
+    verb: &[u8],
+    file: &'w [u8],
+    place: &[u8],
+) -> Result<Option<Command<'w>>, NoMemory>
+    ensures { IfOk result (λ command. option_map spec.plain command ≡ spec.command_of_three verb.now file.now place.now) }
 {
-    if verb == b"unit".as_slice() && is_file_word(file) {
-        unit_at(file, offset_of(offset))
+    if !is_file_word(file) {
+        Ok(None)
+    } else if verb == b"unit".as_slice() {
+        Ok(unit_at(file, offset_of(place)))
+    } else if verb == b"list".as_slice() {
+        Ok(list_at(file, position_of(alloc, place)?))
     } else {
-        None
+        Ok(None)
+    }
+}
+
+fn command_of_four<'w>(
+    alloc: Global,
+    verb: &[u8],
+    file: &'w [u8],
+    place: &[u8],
+    name: &'w [u8],
+) -> Result<Option<Command<'w>>, NoMemory>
+    ensures { IfOk result (λ command. option_map spec.plain command ≡ spec.command_of_four verb.now file.now place.now name.now) }
+{
+    if verb == b"info".as_slice() && is_file_word(file) && is_name_word(name) {
+        Ok(info_at(file, position_of(alloc, place)?, name))
+    } else {
+        Ok(None)
     }
 }
 
@@ -73,6 +118,40 @@ fn unit_at(file: &[u8], offset: Option<u64>) -> Option<Command<'_>>
     }
 }
 
+fn list_at(file: &[u8], position: Option<Position>) -> Option<Command<'_>>
+    ensures { option_map spec.plain result ≡ option_map (spec.ListAt file.now) position }
+{
+    match position {
+        Some(position) => Some(Command::List(file, position)),
+        None => None,
+    }
+}
+
+fn info_at<'w>(file: &'w [u8], position: Option<Position>, name: &'w [u8]) -> Option<Command<'w>>
+    ensures { option_map spec.plain result ≡ option_map (λ position. spec.Info file.now position name.now) position }
+{
+    match position {
+        Some(position) => Some(Command::Info(file, position, name)),
+        None => None,
+    }
+}
+
+/// The position of a word, where it is one that commands know: a chain of lines.
+fn position_of(alloc: Global, word: &[u8]) -> Result<Option<Position>, NoMemory>
+    ensures { IfOk result (λ position. position ≡ spec.known_position (position_of word.now)) }
+{
+    match parse_position(alloc, word) {
+        Ok(Position::Chain { unit, lines, line }) => Ok(Some(Position::Chain {
+            unit,
+            lines,
+            line,
+        })),
+        Ok(Position::Named { .. }) => Ok(None),
+        Err(PositionText::Bad) => Ok(None),
+        Err(PositionText::NoMemory) => Err(NoMemory),
+    }
+}
+
 /// Whether the word can name a file.
 fn is_file_word(word: &[u8]) -> bool
     ensures { result ≡ spec.is_file_word word.now }
@@ -80,5 +159,15 @@ fn is_file_word(word: &[u8]) -> bool
     match word {
         [] => false,
         [first, ..] => *first != b'-' && !word.contains(&0),
+    }
+}
+
+/// Whether the word can be a name.
+fn is_name_word(word: &[u8]) -> bool
+    ensures { result ≡ spec.is_name_word word.now }
+{
+    match word {
+        [] => false,
+        _ => !word.contains(&0),
     }
 }

@@ -4,18 +4,13 @@
 mod command;
 mod finish;
 mod help;
-mod hexadecimal;
 mod laws;
 mod offset;
 mod outcome;
 mod perform;
 mod printing;
-mod reading;
 mod refusal;
-mod report;
 mod status;
-mod strings;
-mod telling;
 mod top;
 
 pub use laws::each_run_has_one_answer;

@@ -1,26 +1,20 @@
 ghost use Rattle.std.specs.Prelude.{◌≡◌, ◌≤◌, Some, IfSome, IfOk, IfErr, IsErrAnd, length};
-ghost use Rattle.std.specs.Option.{option_map};
-ghost use Rattle.mac_base.specs.SectionBytes.{bytes_of};
 ghost use Rattle.mac_io.specs.Causes.{HasCause};
-ghost use Rattle.section_views.specs.Faults.{first_fault};
 ghost use Rattle.mac_io.specs.Files.{IsFileAt};
+ghost use Rattle.macro_query.specs.Queries.{RawSays, UnitAtSays, DumpSays, InfoSays, ListSays};
 ghost use Rattle.dwmac_run.specs.Command as spec;
-ghost use Rattle.dwmac_run.specs.Answer.{IsAnswer, AnswerTo, IsNoFile, UnitAnswer, SectionAnswer, ElfAnswer, most_bytes};
-ghost use Rattle.dwmac_run.specs.Outcome.{answer_of, HasFailed};
+ghost use Rattle.dwmac_run.specs.Answer.{IsAnswer, AnswerTo, IsNoFile, AboutFile, most_bytes};
+ghost use Rattle.dwmac_run.specs.Outcome.{answer_of, told_by, HasFailed};
 
 use crate::command::{Command, command_of};
 use crate::help::{help_text, version_text};
 use crate::outcome::Outcome;
-use crate::reading::{Stop, report_of};
 use crate::refusal::Refusal;
-use crate::strings::StringSection;
-use mac_base::{Paths, Sections};
+use mac_base::{Bytes, Paths};
 use mac_io::{Fetched, Shelf};
-use section_views::Elf;
+use macro_query::QueryFault;
+use position_table::Position;
 use std::alloc::Global;
-use std::marker::Brand;
-use std::sync::ledger::Blank;
-use unit_header::{UnitFault, UnitKind};
 
 /// The most bytes that a file may have.
 const MOST_BYTES: usize = 1_073_741_824;
@@ -31,35 +25,100 @@ pub fn perform<'w, S: Shelf>(alloc: Global, words: &'w Paths, shelf: &mut S) -> 
     ensures same { S.files shelf.new ≡ S.files shelf.old }
     ensures cause { HasCause (S.count shelf.old) (S.count shelf.new) (HasFailed result) }
 {
-    match command_of(words.as_slice()) {
-        None => Outcome::Usage,
-        Some(Command::Help) => Outcome::Text(help_text()),
-        Some(Command::Version) => Outcome::Text(version_text()),
-        Some(Command::Raw(file)) => raw(alloc, file, shelf),
-        Some(Command::Unit(file, offset)) => unit(alloc, file, offset, shelf),
+    match command_of(alloc, words.as_slice()) {
+        Ok(Some(command)) => obey(alloc, command, shelf),
+        Ok(None) => Outcome::Usage,
+        Err(_) => Outcome::NoMemory,
+    }
+}
+
+/// Does what a command asks for.
+fn obey<'w, S: Shelf>(alloc: Global, command: Command<'w>, shelf: &mut S) -> Outcome<'w>
+    ensures answer { IfSome (answer_of result) (AnswerTo (Some (spec.plain command.entry)) (S.files shelf.old)) }
+    ensures same { S.files shelf.new ≡ S.files shelf.old }
+    ensures cause { HasCause (S.count shelf.old) (S.count shelf.new) (HasFailed result) }
+{
+    match command {
+        Command::Help => Outcome::Text(help_text()),
+        Command::Version => Outcome::Text(version_text()),
+        Command::Raw(file) => raw(alloc, file, shelf),
+        Command::Unit(file, offset) => unit(alloc, file, offset, shelf),
+        Command::Dump(file) => dump(alloc, file, shelf),
+        Command::Info(file, position, name) => info(alloc, file, &position, name, shelf),
+        Command::List(file, position) => list(alloc, file, &position, shelf),
     }
 }
 
 /// `raw`: the report on the unit at the front of a file.
 fn raw<'w, S: Shelf>(alloc: Global, file: &'w [u8], shelf: &mut S) -> Outcome<'w>
-    ensures answer { IfSome (answer_of result) (AnswerTo (Some (spec.Raw file.now)) (S.files shelf.old)) }
+    ensures answer { IfSome (answer_of result) (AboutFile (S.files shelf.old) file.now RawSays) }
     ensures same { S.files shelf.new ≡ S.files shelf.old }
     ensures cause { HasCause (S.count shelf.old) (S.count shelf.new) (HasFailed result) }
 {
     match fetch(alloc, file, shelf) {
-        Ok(bytes) => report(alloc, file, None, bytes.as_slice(), 0),
+        Ok(bytes) => outcome_of(file, macro_query::raw(alloc, bytes.as_slice())),
         Err(outcome) => outcome,
     }
 }
 
 /// `unit`: the report on the unit at an offset of an ELF file's section of macro units.
 fn unit<'w, S: Shelf>(alloc: Global, file: &'w [u8], offset: u64, shelf: &mut S) -> Outcome<'w>
-    ensures answer { IfSome (answer_of result) (AnswerTo (Some (spec.UnitAt file.now offset)) (S.files shelf.old)) }
+    ensures answer { IfSome (answer_of result) (AboutFile (S.files shelf.old) file.now (UnitAtSays offset)) }
     ensures same { S.files shelf.new ≡ S.files shelf.old }
     ensures cause { HasCause (S.count shelf.old) (S.count shelf.new) (HasFailed result) }
 {
     match fetch(alloc, file, shelf) {
-        Ok(bytes) => unit_in(alloc, file, bytes.as_slice(), offset),
+        Ok(bytes) => outcome_of(file, macro_query::unit(alloc, bytes.as_slice(), offset)),
+        Err(outcome) => outcome,
+    }
+}
+
+/// `dump`: the macro information of all roots of a file.
+fn dump<'w, S: Shelf>(alloc: Global, file: &'w [u8], shelf: &mut S) -> Outcome<'w>
+    ensures answer { IfSome (answer_of result) (AboutFile (S.files shelf.old) file.now DumpSays) }
+    ensures same { S.files shelf.new ≡ S.files shelf.old }
+    ensures cause { HasCause (S.count shelf.old) (S.count shelf.new) (HasFailed result) }
+{
+    match fetch(alloc, file, shelf) {
+        Ok(bytes) => outcome_of(file, macro_query::dump(alloc, bytes.as_slice())),
+        Err(outcome) => outcome,
+    }
+}
+
+/// `info`: the definition of a name at a position in a file.
+fn info<'w, S: Shelf>(
+    alloc: Global,
+    file: &'w [u8],
+    position: &Position,
+    name: &[u8],
+    shelf: &mut S,
+) -> Outcome<'w>
+    ensures answer { IfSome (answer_of result) (AboutFile (S.files shelf.old) file.now (InfoSays position.now name.now)) }
+    ensures same { S.files shelf.new ≡ S.files shelf.old }
+    ensures cause { HasCause (S.count shelf.old) (S.count shelf.new) (HasFailed result) }
+{
+    match fetch(alloc, file, shelf) {
+        Ok(bytes) => outcome_of(
+            file,
+            macro_query::info(alloc, bytes.as_slice(), position, name),
+        ),
+        Err(outcome) => outcome,
+    }
+}
+
+/// `list`: all definitions at a position in a file.
+fn list<'w, S: Shelf>(
+    alloc: Global,
+    file: &'w [u8],
+    position: &Position,
+    shelf: &mut S,
+) -> Outcome<'w>
+    ensures answer { IfSome (answer_of result) (AboutFile (S.files shelf.old) file.now (ListSays position.now)) }
+    ensures same { S.files shelf.new ≡ S.files shelf.old }
+    ensures cause { HasCause (S.count shelf.old) (S.count shelf.new) (HasFailed result) }
+{
+    match fetch(alloc, file, shelf) {
+        Ok(bytes) => outcome_of(file, macro_query::list(alloc, bytes.as_slice(), position)),
         Err(outcome) => outcome,
     }
 }
@@ -81,49 +140,20 @@ fn fetch<'w, S: Shelf>(alloc: Global, file: &'w [u8], shelf: &mut S) -> Result<V
     }
 }
 
-/// The report on the unit at an offset of these bytes of an ELF file.
-fn unit_in<'w>(alloc: Global, file: &'w [u8], bytes: &[u8], offset: u64) -> Outcome<'w>
-    ensures answer { IfSome (answer_of result) (ElfAnswer file.now bytes.now offset (first_fault bytes.now)) }
+/// What a query about a file came to.
+fn outcome_of(file: &[u8], said: Result<Bytes, QueryFault>) -> Outcome<'_>
+    ensures answer { answer_of result ≡ told_by file.now said }
     ensures works { HasFailed result → ⊥ }
 {
-    match Elf::read(bytes) {
-        Ok(elf) => unit_of(alloc, file, elf.sections(), offset),
-        Err(fault) => Outcome::Refused(file, Refusal::Elf(fault)),
-    }
-}
-
-/// The report on the unit at an offset of these sections.
-fn unit_of<'w>(alloc: Global, file: &'w [u8], sections: Sections<'_>, offset: u64) -> Outcome<'w>
-    ensures answer { IfSome (answer_of result) (SectionAnswer file.now (bytes_of sections.entry) offset) }
-    ensures works { HasFailed result → ⊥ }
-{
-    if offset >= sections.macros.len() as u64 {
-        let fault = UnitFault {
-            at: offset,
-            what: UnitKind::ImportRange,
-        };
-        return Outcome::Refused(file, Refusal::Unit(fault));
-    }
-    let strs = StringSection::new(sections.strs);
-    report(alloc, file, Some(&strs), sections.macros, offset as usize)
-}
-
-/// The report on the unit at an offset of a section, or that the file is refused.
-fn report<'w>(
-    alloc: Global,
-    file: &'w [u8],
-    strs: Option<&StringSection<'_>>,
-    section: &[u8],
-    offset: usize,
-) -> Outcome<'w>
-    requires { offset ≤ length section.now }
-    ensures answer { IfSome (answer_of result) (UnitAnswer file.now (option_map (λ s. s.now.bytes.now) strs.entry) section.now offset) }
-    ensures works { HasFailed result → ⊥ }
-{
-    match report_of::<Brand>(alloc, strs, section, offset, Blank::new(1)) {
-        Ok(text) => Outcome::Report(text),
-        Err(Stop::Unit(fault)) => Outcome::Refused(file, Refusal::Unit(fault)),
-        Err(Stop::TooLong) => Outcome::TooLong,
-        Err(Stop::NoMemory) => Outcome::NoMemory,
+    match said {
+        Ok(text) => Outcome::Report(text.into_vec()),
+        Err(QueryFault::Elf(fault)) => Outcome::Refused(file, Refusal::Elf(fault)),
+        Err(QueryFault::Info(fault)) => Outcome::Refused(file, Refusal::Info(fault)),
+        Err(QueryFault::Line(fault)) => Outcome::Refused(file, Refusal::Line(fault)),
+        Err(QueryFault::Unit(fault)) => Outcome::Refused(file, Refusal::Unit(fault)),
+        Err(QueryFault::NoSuchUnit) => Outcome::Refused(file, Refusal::NoSuchUnit),
+        Err(QueryFault::Position(fault)) => Outcome::Refused(file, Refusal::Position(fault)),
+        Err(QueryFault::ReportTooLong) => Outcome::TooLong,
+        Err(QueryFault::NoMemory) => Outcome::NoMemory,
     }
 }

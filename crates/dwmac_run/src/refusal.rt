@@ -1,9 +1,12 @@
 ghost use Rattle.std.specs.Prelude.{◌≡◌, ◌++◌, ℕ, List, codes};
-ghost use Rattle.dwmac_run.specs.Refusals.{elf_words, kind_name};
+ghost use Rattle.dwmac_run.specs.Refusals.{elf_words, info_name, line_name, kind_name, position_words};
 ghost use Rattle.dwmac_run.specs.Numbers.{number_text};
 
-use crate::hexadecimal::hex_digits;
+use info_roots::{InfoFault, InfoKind};
 use itoa::Buffer;
+use line_names::{LineFault, LineKind};
+use macro_query::hex_digits;
+use position_table::PosFault;
 use section_views::ElfFault;
 use unit_header::{UnitFault, UnitKind};
 
@@ -16,8 +19,16 @@ pub enum Refusal {
     FileTooLong,
     /// Its ELF headers have this fault.
     Elf(ElfFault),
+    /// Its `.debug_info` has this fault.
+    Info(InfoFault),
+    /// Its line table has this fault.
+    Line(LineFault),
     /// Its macro unit has this fault.
     Unit(UnitFault),
+    /// It has no root with this number.
+    NoSuchUnit,
+    /// Its root has no such position.
+    Position(PosFault),
 }
 
 /// A number at the end of a line.
@@ -40,7 +51,11 @@ impl Refusal {
             Refusal::NoSuchFile => (b"NoSuchFile", Number::None),
             Refusal::FileTooLong => (b"FileTooLong", Number::None),
             Refusal::Elf(fault) => elf_fault_words(fault),
+            Refusal::Info(fault) => (info_fault_words(fault.what), Number::Hex(fault.at)),
+            Refusal::Line(fault) => (line_fault_words(fault.what), Number::Hex(fault.at)),
             Refusal::Unit(fault) => (unit_fault_words(fault.what), Number::Hex(fault.at)),
+            Refusal::NoSuchUnit => (b"NoSuchUnit", Number::None),
+            Refusal::Position(fault) => position_words(fault),
         }
     }
 }
@@ -59,6 +74,53 @@ fn elf_fault_words(fault: ElfFault) -> (&'static [u8], Number)
         ElfFault::Name { n } => (b"Elf Name section ", Number::Decimal(n)),
         ElfFault::Compressed { n } => (b"Elf Compressed section ", Number::Decimal(n)),
         ElfFault::Twice { n } => (b"Elf Twice section ", Number::Decimal(n)),
+    }
+}
+
+fn info_fault_words(kind: InfoKind) -> &'static [u8]
+    ensures { (at : List ℕ) → result.now ++ at ≡ codes "Info " ++ info_name kind ++ codes " at " ++ (codes "0x" ++ at) }
+{
+    match kind {
+        InfoKind::Cut => b"Info Cut at 0x",
+        InfoKind::Leb => b"Info Leb at 0x",
+        InfoKind::NoNul => b"Info NoNul at 0x",
+        InfoKind::Length => b"Info Length at 0x",
+        InfoKind::Version => b"Info Version at 0x",
+        InfoKind::AbbrevRange => b"Info AbbrevRange at 0x",
+        InfoKind::Abbrev => b"Info Abbrev at 0x",
+        InfoKind::Form => b"Info Form at 0x",
+        InfoKind::StrRange => b"Info StrRange at 0x",
+        InfoKind::NoStrBase => b"Info NoStrBase at 0x",
+        InfoKind::StrxRange => b"Info StrxRange at 0x",
+        InfoKind::TooManyRoots => b"Info TooManyRoots at 0x",
+        InfoKind::NoMemory => b"Info NoMemory at 0x",
+    }
+}
+
+fn line_fault_words(kind: LineKind) -> &'static [u8]
+    ensures { (at : List ℕ) → result.now ++ at ≡ codes "Line " ++ line_name kind ++ codes " at " ++ (codes "0x" ++ at) }
+{
+    match kind {
+        LineKind::Cut => b"Line Cut at 0x",
+        LineKind::Leb => b"Line Leb at 0x",
+        LineKind::NoNul => b"Line NoNul at 0x",
+        LineKind::Length => b"Line Length at 0x",
+        LineKind::Version => b"Line Version at 0x",
+        LineKind::OpcodeBase => b"Line OpcodeBase at 0x",
+        LineKind::NoPath => b"Line NoPath at 0x",
+        LineKind::Form => b"Line Form at 0x",
+        LineKind::StrRange => b"Line StrRange at 0x",
+        LineKind::DirIndex => b"Line DirIndex at 0x",
+        LineKind::NoMemory => b"Line NoMemory at 0x",
+    }
+}
+
+fn position_words(fault: PosFault) -> (&'static [u8], Number)
+    ensures { result.0.now ++ number_text result.1 ≡ position_words fault }
+{
+    match fault {
+        PosFault::NoSuchPosition { depth } => (b"NoSuchPosition depth ", Number::Decimal(depth)),
+        PosFault::NoMemory => (b"NoMemory", Number::None),
     }
 }
 

@@ -1,19 +1,11 @@
-use Rattle.std.proofs.Common.{List, ℕ, subst}
-use Rattle.std.specs.Prelude.{IfSome}
-use Rattle.section_views.specs.Faults.{first_fault}
-use Rattle.dwmac_run.specs.Answer.{ElfAnswer}
+use Rattle.macro_query.specs.Queries.{UnitAtSays}
 use Rattle.dwmac_run.specs.Outcome.{answer_of}
 use Rattle.dwmac_run.proofs.AnswerLemmas.{file_found, file_missed}
 use Rattle.dwmac_run.proofs.perform.unit.Goals as goal
 
 pub returns-in-Ok-clause-answer : goal.returns-in-Ok-clause-answer
 returns-in-Ok-clause-answer g c =
-    let file = c.args.file.now in
-    let found = c.in-Ok.ensures.found in
-    file_found file (g.S.Shelf.files c.args.shelf.now) c.in-Ok.bytes.items (λ bytes a. ElfAnswer file bytes c.args.offset (first_fault bytes) a) (answer_of c.unit_in.result) found.0 found.1
-    (subst (λ (xs : List ℕ). IfSome (answer_of c.unit_in.result) (ElfAnswer file xs c.args.offset (first_fault xs))) c.as_slice.ensures.value c.unit_in.ensures.answer)
+    file_found c.args.file.now (g.S.Shelf.files c.args.shelf.now) c.in-Ok.bytes.items _ (UnitAtSays c.args.offset) c.unit.result (answer_of c.outcome_of.result) c.in-Ok.ensures.found c.as_slice.ensures.value c.unit.ensures c.outcome_of.ensures.answer
 
 pub returns-in-Err-clause-answer : goal.returns-in-Err-clause-answer
-returns-in-Err-clause-answer g c =
-    let file = c.args.file.now in
-    file_missed file (g.S.Shelf.files c.args.shelf.now) (λ bytes a. ElfAnswer file bytes c.args.offset (first_fault bytes) a) (answer_of c.in-Err.outcome) c.in-Err.ensures.stops
+returns-in-Err-clause-answer g c = file_missed c.args.file.now (g.S.Shelf.files c.args.shelf.now) (UnitAtSays c.args.offset) (answer_of c.in-Err.outcome) c.in-Err.ensures.stops

@@ -1,6 +1,5 @@
-use Rattle.std.proofs.Common.{List, ℕ, ◌++◌, subst, sym, append_assoc}
+use Rattle.std.proofs.Common.{◌++◌}
 use Rattle.std.specs.Prelude.{codes}
-use Rattle.mac_io.specs.Calls.{Writes}
 use Rattle.dwmac_run.proofs.TextLemmas.{refusal_written, refusal_broken}
 use Rattle.dwmac_run.proofs.printing.write_refusal.Goals as goal
 

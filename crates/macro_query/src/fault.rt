@@ -1,0 +1,109 @@
+ghost use Rattle.std.specs.Prelude.{◌≡◌};
+ghost use Rattle.macro_query.specs.Roots.{file_fault};
+ghost use Rattle.macro_query.specs.Faults.{info_fault, pos_fault};
+ghost use Rattle.macro_query.specs.declared.fault.QueryFault.TheVariants.{Elf as BadElf, Unit as BadUnit, NoMemory as RanOut};
+
+use import_graph::FileFault;
+use info_roots::{InfoFault, InfoKind};
+use line_names::LineFault;
+use mac_base::NoMemory;
+use position_table::PosFault;
+use section_views::ElfFault;
+use std::alloc::AllocFailed;
+use thiserror::Error;
+use unit_header::UnitFault;
+
+/// Why a query about a file has no report.
+#[derive(Debug, Drop, PartialEq, Eq, Error)]
+pub enum QueryFault {
+    /// The first fault of the file's headers or sections.
+    #[error("{0}")]
+    Elf(ElfFault),
+    /// The first fault of `.debug_info`.
+    #[error("roots: {0}")]
+    Info(InfoFault),
+    /// The first fault of a line table.
+    #[error("line table: {0}")]
+    Line(LineFault),
+    /// The first fault of a macro unit.
+    #[error("macro unit: {0}")]
+    Unit(UnitFault),
+    /// The file has no root with this number.
+    #[error("there is no such root")]
+    NoSuchUnit,
+    /// The root has no such position.
+    #[error("{0}")]
+    Position(PosFault),
+    /// There is no fault, and the report has more than 1,073,741,824 bytes.
+    #[error("the report is too long")]
+    ReportTooLong,
+    /// Memory ran out.
+    #[error("out of memory")]
+    NoMemory,
+}
+
+impl From<ElfFault> for QueryFault {
+    ghost from_gives = { λ fault found. found ≡ BadElf fault };
+
+    fn from(fault: ElfFault) -> QueryFault {
+        QueryFault::Elf(fault)
+    }
+}
+
+impl From<InfoFault> for QueryFault {
+    ghost from_gives = { λ fault found. found ≡ info_fault fault };
+
+    fn from(fault: InfoFault) -> QueryFault {
+        match fault.what {
+            InfoKind::NoMemory => QueryFault::NoMemory,
+            _ => QueryFault::Info(fault),
+        }
+    }
+}
+
+impl From<FileFault> for QueryFault {
+    ghost from_gives = { λ fault found. found ≡ file_fault fault };
+
+    fn from(fault: FileFault) -> QueryFault {
+        match fault {
+            FileFault::Line(fault) => QueryFault::Line(fault),
+            FileFault::Unit(fault) => QueryFault::Unit(fault),
+            FileFault::NoMemory => QueryFault::NoMemory,
+        }
+    }
+}
+
+impl From<PosFault> for QueryFault {
+    ghost from_gives = { λ fault found. found ≡ pos_fault fault };
+
+    fn from(fault: PosFault) -> QueryFault {
+        match fault {
+            PosFault::NoMemory => QueryFault::NoMemory,
+            PosFault::NoSuchPosition { .. } => QueryFault::Position(fault),
+        }
+    }
+}
+
+impl From<UnitFault> for QueryFault {
+    ghost from_gives = { λ fault found. found ≡ BadUnit fault };
+
+    fn from(fault: UnitFault) -> QueryFault {
+        QueryFault::Unit(fault)
+    }
+}
+
+impl From<NoMemory> for QueryFault {
+    ghost from_gives = { λ _ found. found ≡ RanOut };
+
+    fn from(_error: NoMemory) -> QueryFault {
+        QueryFault::NoMemory
+    }
+}
+
+impl<T: Drop> From<AllocFailed<T>> for QueryFault {
+    ghost from_gives = { λ _ found. found ≡ RanOut };
+
+    fn from(_error: AllocFailed<T>) -> QueryFault {
+        QueryFault::NoMemory
+    }
+}
