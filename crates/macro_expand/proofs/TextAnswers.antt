@@ -1,0 +1,50 @@
+-- What a text expands to, from the answer of the machine.
+use Rattle.std.proofs.Common.{◌≡◌, false, List, [], ◌∷◌, map, Vec, Result, Ok, Err, ◌⊎◌, inl, inr, refl, sym, ap, ◌∙◌, subst}
+use Rattle.std.specs.declared.alloc.Global.{Global}
+use Rattle.pp_tokens.specs.declared.token.Token.{Token}
+use Rattle.macro_expand.specs.declared.here.Here.{Here}
+use Rattle.macro_expand.specs.declared.hidden.Hidden.{Hidden}
+use Rattle.macro_expand.specs.declared.fault.ExpandFault.{ExpandFault}
+use Rattle.macro_expand.specs.declared.fault.ExpandFault.TheVariants.{NoMemory, OpenCall, ArgCount, BadPaste, BadString, BadDefinition, LoneQuote, TooLong}
+use Rattle.macro_expand.specs.Marked.{Marked, fresh}
+use Rattle.macro_expand.specs.Macros.{Macros}
+use Rattle.macro_expand.specs.Calls.{first_list}
+use Rattle.macro_expand.specs.Expansion.{Answer, expansion, has_lone_quote, tokens_of}
+use Rattle.macro_expand.specs.Rules.{Expands, ExpandsTo, Scanned}
+use Rattle.macro_expand.specs.States.{marked}
+use Rattle.macro_expand.specs.Machine.{AnswersList}
+use Rattle.macro_expand.specs.Answering.{IsAnswer}
+use Rattle.macro_expand.proofs.OneAnswer.{complete}
+
+tokens_same : (list : List Hidden) → map (λ (m : Marked). m.token) (map marked list) ≡ map (λ (h : Hidden). h.token) list
+tokens_same [] = refl
+tokens_same (h ∷ hs) = ap (λ l. h.token ∷ l) (tokens_same hs)
+
+-- an answer that the rules give
+pub answer_is : (R : Result (List Token) ExpandFault → Type 0) (fault : ExpandFault) → R (Err fault) → IsAnswer R (Err fault)
+answer_is R NoMemory r = tt
+answer_is R (OpenCall name) r = r
+answer_is R (ArgCount name got) r = r
+answer_is R (BadPaste left right) r = r
+answer_is R (BadString name) r = r
+answer_is R (BadDefinition name) r = r
+answer_is R LoneQuote r = r
+answer_is R TooLong r = r
+
+pub no_memory : (R : Result (List Token) ExpandFault → Type 0) (fault : ExpandFault) → fault ≡ NoMemory → IsAnswer R (Err fault)
+no_memory R fault e = subst (λ f. IsAnswer R (Err f)) (sym e) tt
+
+module _ (macros : Macros) (here : Here) (tokens : List Token) (ls : List (List Marked)) (l : has_lone_quote tokens ≡ false) (s : ls ≡ map fresh tokens ∷ []) where
+  scanned : (answer : Answer) → expansion macros here (first_list ls) 0 ≡ answer → ExpandsTo macros here tokens (tokens_of answer)
+  scanned answer e = Scanned l (subst (λ a. Expands macros here (map fresh tokens) 0 a) (ap (λ x. expansion macros here (first_list x) 0) (sym s) ∙ e) (complete macros here (map fresh tokens) 0))
+
+  pub exact_ok : (list : Vec Hidden Global) (all : List Token) → AnswersList (Ok list) (expansion macros here (first_list ls) 0) → all ≡ map (λ (h : Hidden). h.token) list.items → ExpandsTo macros here tokens (Ok all)
+  exact_ok list all a e = go (expansion macros here (first_list ls) 0) refl a
+    where
+      go : (answer : Answer) → expansion macros here (first_list ls) 0 ≡ answer → AnswersList (Ok list) answer → ExpandsTo macros here tokens (Ok all)
+      go (Ok r) k m = subst (λ t. ExpandsTo macros here tokens (Ok t)) (ap (map (λ (m : Marked). m.token)) (sym m) ∙ tokens_same list.items ∙ sym e) (scanned (Ok r) k)
+      go (Err fault) k m = absurd m
+
+  pub exact_err : (fault : ExpandFault) → (fault ≡ NoMemory) ⊎ (expansion macros here (first_list ls) 0 ≡ Err fault) → IsAnswer (ExpandsTo macros here tokens) (Err fault)
+  exact_err fault (inl m) = no_memory (ExpandsTo macros here tokens) fault m
+  exact_err fault (inr e) = answer_is (ExpandsTo macros here tokens) fault (scanned (Err fault) e)

@@ -1,0 +1,41 @@
+use Rattle.std.proofs.Common.{◌∙◌, ap, sym, arith, ◌≡◌, ◌<◌, ◌+◌, ◌-◌, length, length-set, drop, take, set, Some}
+use Rattle.macro_expand.specs.declared.slots.Slot.TheVariants as slot
+use Rattle.macro_expand.specs.Slots.{places, opened, passed}
+use Rattle.macro_expand.proofs.SlotLemmas.{cut_none, cut_here, cut_comma, cut_word, less_deep}
+use Rattle.macro_expand.proofs.slots.cut_arguments.Goals as goal
+
+pub returns-in_default : goal.returns-in_default
+returns-in_default c =
+    let a : c.loop-at.at ≡ c.loop-at.at - 1 + 1 = omega arith in
+    let h : c.loop-at.at - 1 < length c.loop-at.slots.items = omega arith in
+    cut_none c.loop-at.slots.items (c.loop-at.at - 1) c.loop-at.at c.index-slot.result.now c.index-slot.result.now a h c.index-slot.ensures c.loop-at.count c.loop-at.left c.loop-at.depth _ c.loop-at.invariant.same (sym c.slot_part.ensures ∙ c.in_default.is)
+
+pub returns-then-ends_call : goal.returns-then-ends_call
+returns-then-ends_call c =
+    let a : c.loop-at.at ≡ c.loop-at.at - 1 + 1 = omega arith in
+    let h : c.loop-at.at - 1 < length c.loop-at.slots.items = omega arith in
+    cut_here c.loop-at.slots.items (c.loop-at.at - 1) c.loop-at.at c.index-slot.result.now c.index-slot.result.now a h c.index-slot.ensures c.loop-at.count c.loop-at.left c.loop-at.depth _ c.loop-at.invariant.same c.in-Some.kind (sym c.slot_part.ensures ∙ c.in-Some.is) (sym c.ends_call.ensures ∙ c.if-ends_call.true)
+    ∙ ap (λ n. Some (record { count = c.loop-at.count + 1; close = n; places = places (set c.loop-at.slots.items (c.loop-at.at - 1) slot.End) })) (sym c.in_ok-hides.ensures)
+
+pub loop-at-preserved-then-parts_arguments : goal.loop-at-preserved-then-parts_arguments
+loop-at-preserved-then-parts_arguments c =
+    let a : c.loop-at.at ≡ c.loop-at.at - 1 + 1 = omega arith in
+    let h : c.loop-at.at - 1 < length c.loop-at.slots.items = omega arith in
+    record {
+      same = ap (λ l. passed (c.loop-at.count + 1) (places (drop (c.loop-at.at - 1) (set c.loop-at.slots.items (c.loop-at.at - 1) slot.End))) (opened (places (take (c.loop-at.at - 1) (set c.loop-at.slots.items (c.loop-at.at - 1) slot.End))) l c.loop-at.depth)) c.saturating_sub-left.ensures
+          ∙ cut_comma c.loop-at.slots.items (c.loop-at.at - 1) c.loop-at.at c.index-slot.result.now c.index-slot.result.now a h c.index-slot.ensures c.loop-at.count c.loop-at.left c.loop-at.depth _ c.loop-at.invariant.same c.in-Some.kind (sym c.slot_part.ensures ∙ c.in-Some.is) (sym c.ends_call.ensures ∙ c.if-ends_call.false) (sym c.parts_arguments.ensures ∙ c.if-parts_arguments.true);
+      within = simp length-set (omega arith);
+      few = simp length-set (omega arith);
+      deep = simp length-set (omega arith);
+    }
+
+pub loop-at-preserved : goal.loop-at-preserved
+loop-at-preserved c =
+    let a : c.loop-at.at ≡ c.loop-at.at - 1 + 1 = omega arith in
+    let h : c.loop-at.at - 1 < length c.loop-at.slots.items = omega arith in
+    record {
+      same = cut_word c.loop-at.slots.items (c.loop-at.at - 1) c.loop-at.at c.index-slot.result.now c.index-slot.result.now a h c.index-slot.ensures c.loop-at.count c.loop-at.left c.loop-at.depth _ c.loop-at.invariant.same c.in-Some.kind c.depth_behind-depth.result (sym c.slot_part.ensures ∙ c.in-Some.is) (sym c.ends_call.ensures ∙ c.if-ends_call.false) (sym c.parts_arguments.ensures ∙ c.if-parts_arguments.false) c.depth_behind-depth.ensures;
+      within = omega arith;
+      few = omega arith;
+      deep = less_deep c.in-Some.kind c.depth_behind-depth.result c.loop-at.depth (c.loop-at.at - 1) c.loop-at.at (length c.loop-at.slots.items) c.depth_behind-depth.ensures a c.loop-at.invariant.deep;
+    }

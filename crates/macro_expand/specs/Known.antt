@@ -1,0 +1,32 @@
+-- The definitions that were read from the texts of a table.
+use Rattle.std.specs.Prelude.{ℕ, ◌≡◌, List, Option, Some, None}
+use Rattle.std.specs.Option.{option_map}
+use Rattle.std.specs.List.{AllByRecursion}
+use Rattle.std.specs.Prelude.{Vec}
+use Rattle.std.specs.declared.rc.Rc.{Rc}
+use Rattle.macro_table.specs.Definitions.{DefValue}
+use Rattle.macro_table.specs.Tables.{TableOf}
+use Rattle.macro_expand.specs.declared.known.Known.{Known}
+use Rattle.macro_expand.specs.Macros.{macros_of}
+use Rattle.macro_expand.specs.States.{name_text}
+
+-- a shared definition
+abbrev pub def_value : {X : Type 0} → Rc DefValue X → DefValue
+def_value def = def.value
+
+-- the definition of a name that has a text, where the text is one
+abbrev pub known_def : Known → Option DefValue
+known_def known = option_map def_value known.def
+
+-- a name and its definition
+abbrev pub known_value : Known → List ℕ × Option DefValue
+known_value known = (name_text known.name, known_def known)
+
+-- what a name stands for, where this was found
+abbrev pub IsMeaning : Option Known → List ℕ → Option (Option DefValue) → Type 0
+IsMeaning None name said = said ≡ None
+IsMeaning (Some known) name said = (said ≡ Some (known_def known)) × (name_text known.name ≡ name)
+
+-- what is remembered is what the table says
+abbrev pub AreKnown : {A : Type 0} → TableOf ℕ → List (Vec ℕ A × Known) → Type 0
+AreKnown table entries = AllByRecursion (λ e. IsMeaning (Some e.1) e.0.items (macros_of table e.0.items)) entries

@@ -1,0 +1,14 @@
+pub mod Marked
+pub mod Macros
+pub mod Calls
+pub mod Substituted
+pub mod Heads
+pub mod Expansion
+pub mod Rules
+pub mod Laws
+pub mod States
+pub mod Slots
+pub mod Known
+pub mod Taking
+pub mod Machine
+pub mod Answering

@@ -1,0 +1,93 @@
+-- The lists of tokens that wait, one behind another, as the code's stack holds them.
+use Rattle.std.specs.Prelude.{ℕ, ◌+◌, ◌-◌, ◌≡◌, if◌then◌else◌, List, [], ◌∷◌, ◌++◌, Option, Some, None}
+use Rattle.macro_expand.specs.declared.slots.Slot.{Slot}
+use Rattle.macro_expand.specs.declared.slots.Slot.TheVariants as slot
+use Rattle.macro_expand.specs.declared.slots.Cut.{Cut}
+use Rattle.macro_expand.specs.declared.part.Part.{Part}
+use Rattle.macro_expand.specs.Marked.{Names, no_names, Marked, part_of}
+use Rattle.macro_expand.specs.Calls.{to_first, depth_behind, ends_call, parts, first_list, other_lists}
+use Rattle.macro_expand.specs.States.{backwards, marked, hidden_names}
+
+-- a token of a list, or the end of one
+pub data Place : Type 0 where
+  Stands : Marked → Place
+  Ends : Place
+
+-- what a slot of the code holds
+abbrev pub place_of : Slot → Place
+place_of (slot.Word h) = Stands (marked h)
+place_of slot.End = Ends
+
+-- the lists, of which each ends at a mark
+abbrev pub lists_of : List Place → List (List Marked)
+lists_of [] = []
+lists_of (Stands m ∷ ps) = to_first m (lists_of ps)
+lists_of (Ends ∷ ps) = [] ∷ lists_of ps
+
+-- what the stack holds, from its top down
+abbrev pub places : List Slot → List Place
+places slots = backwards place_of slots
+
+-- the lists that the stack holds
+abbrev pub lists : List Slot → List (List Marked)
+lists slots = lists_of (places slots)
+
+-- the lists with tokens before the first
+abbrev pub in_front : List Marked → List (List Marked) → List (List Marked)
+in_front [] ls = ls
+in_front (m ∷ ms) ls = to_first m (in_front ms ls)
+
+-- the token that is taken from the first list, or none where the list is empty and goes
+abbrev pub Takes : Option Marked → List (List Marked) → List (List Marked) → Type 0
+Takes (Some m) old new = old ≡ to_first m new
+Takes None old new = (first_list old ≡ []) × (new ≡ other_lists old)
+
+-- what the next token of a list is to the arguments of a call
+abbrev pub first_part : List Marked → Option Part
+first_part [] = None
+first_part (m ∷ ms) = Some (part_of m.token)
+
+-- what a place is to the arguments of a call
+abbrev pub place_part : Place → Option Part
+place_part (Stands m) = Some (part_of m.token)
+place_part Ends = None
+
+-- the names that the token of a place hides
+abbrev pub place_hides : Place → Names
+place_hides (Stands m) = m.hides
+place_hides Ends = no_names
+
+-- how many arguments a call has, the names that its closing parenthesis hides, and the stack with the ends of the arguments
+pub record Opened : Type 0 where
+  pub count : ℕ
+  pub close : Names
+  pub places : List Place
+
+-- the same with a token that stays on top
+abbrev pub stands_too : Marked → Option Opened → Option Opened
+stands_too m None = None
+stands_too m (Some o) = Some (record { count = o.count; close = o.close; places = Stands m ∷ o.places })
+
+-- the same with the end of a list on top
+abbrev pub ends_too : Option Opened → Option Opened
+ends_too None = None
+ends_too (Some o) = Some (record { count = o.count + 1; close = o.close; places = Ends ∷ o.places })
+
+-- the stack behind the `(` of a call, where each comma that parts two arguments and the parenthesis that closes become ends of lists
+abbrev pub opened : List Place → ℕ → ℕ → Option Opened
+opened [] commas depth = None
+opened (Ends ∷ ps) commas depth = None
+opened (Stands m ∷ ps) commas depth =
+    if ends_call (part_of m.token) depth then Some (record { count = 1; close = m.hides; places = Ends ∷ ps })
+    else (if parts (part_of m.token) commas depth then ends_too (opened ps (commas - 1) depth)
+    else stands_too m (opened ps commas (depth_behind (part_of m.token) depth)))
+
+-- the same behind places that were passed, with so many commas among them
+abbrev pub passed : ℕ → List Place → Option Opened → Option Opened
+passed count before None = None
+passed count before (Some o) = Some (record { count = count + o.count; close = o.close; places = before ++ o.places })
+
+-- what the code's cut of this stack is
+abbrev pub IsOpened : Option Cut → List Slot → Option Opened → Type 0
+IsOpened None new o = o ≡ None
+IsOpened (Some cut) new o = o ≡ Some (record { count = cut.count; close = hidden_names cut.hides; places = places new })

@@ -1,0 +1,106 @@
+-- How what the code holds is seen: hide sets as sets of names, tokens as marked tokens.
+use Rattle.std.specs.Prelude.{ℕ, ◌≡◌, Bool, true, false, ◌&&◌, ◌||◌, List, [], ◌∷◌, ◌++◌, map, bytes_eq, if◌then◌else◌, Option, Some, None, Result, Ok, Err, ◌⊎◌}
+use Rattle.std.specs.declared.rc.Rc.{Rc}
+use Rattle.smallvec.specs.SmallVec.{SmallVec}
+use Rattle.macro_expand.specs.declared.hide.Name.{Name}
+use Rattle.macro_expand.specs.declared.hide.HideSet.{HideSet}
+use Rattle.macro_expand.specs.declared.hidden.Hidden.{Hidden}
+use Rattle.macro_expand.specs.declared.cell.Given.{Given}
+use Rattle.macro_expand.specs.declared.cell.Cell.{Cell}
+use Rattle.macro_expand.specs.declared.cell.Cell.TheVariants as cell
+use Rattle.macro_expand.specs.declared.before.Before.{Before}
+use Rattle.macro_expand.specs.declared.fault.ExpandFault.{ExpandFault}
+use Rattle.macro_expand.specs.declared.fault.ExpandFault.TheVariants.{NoMemory}
+use Rattle.pp_tokens.specs.declared.token.Token.{Token}
+use Rattle.pp_tokens.specs.declared.token.Kind.{Kind}
+use Rattle.macro_expand.specs.Marked.{Names, no_names, Marked, is_named, is_hash, is_paste, sound_kind}
+use Rattle.macro_expand.specs.Calls.{paste_follows}
+use Rattle.macro_expand.specs.Substituted.{Argument, Piece, Word, Gap, Joins}
+
+-- the names of a list
+abbrev pub members : List (List ℕ) → Names
+members [] name = false
+members (x ∷ xs) name = bytes_eq x name || members xs name
+
+-- whether all names of the second list are in the first
+abbrev pub covers_names : List (List ℕ) → List (List ℕ) → Bool
+covers_names names [] = true
+covers_names names (x ∷ xs) = members names x && covers_names names xs
+
+-- those of the second list that are not in the first
+abbrev pub missing_names : List (List ℕ) → List (List ℕ) → List (List ℕ)
+missing_names names [] = []
+missing_names names (x ∷ xs) = if members names x then missing_names names xs else x ∷ missing_names names xs
+
+-- those of the first list that are in the second
+abbrev pub common_names : List (List ℕ) → List (List ℕ) → List (List ℕ)
+common_names [] others = []
+common_names (x ∷ xs) others = if members others x then x ∷ common_names xs others else common_names xs others
+
+-- the text of a name that has one
+abbrev pub text_or_none : {X : Type 0} → Option (Rc (List ℕ) X) → List ℕ
+text_or_none None = []
+text_or_none (Some text) = text.value
+
+-- the text of a name
+abbrev pub name_text : Name → List ℕ
+name_text name = text_or_none name.text
+
+-- the names of a set that has some
+abbrev pub names_or_none : {X : Type 0} → Option (Rc (SmallVec Name) X) → Names
+names_or_none None = no_names
+names_or_none (Some names) = members (map name_text names.value.items)
+
+-- the names of a hide set
+abbrev pub hidden_names : HideSet → Names
+hidden_names set = names_or_none set.names
+
+-- a token with its hide set
+abbrev pub marked : Hidden → Marked
+marked h = record { token = h.token; hides = hidden_names h.hides }
+
+-- a list that is kept in reverse order
+abbrev pub backwards : {A B : Type 0} → (A → B) → List A → List B
+backwards f [] = []
+backwards f (x ∷ xs) = backwards f xs ++ f x ∷ []
+
+-- the kind of the only one of these tokens, where it has this text
+abbrev pub kind_of_only : List Token → List ℕ → Option Kind
+kind_of_only [] text = None
+kind_of_only (t ∷ []) text = if bytes_eq t.text text then sound_kind (Some t.kind) else None
+kind_of_only (t ∷ u ∷ ts) text = None
+
+-- a call answers exactly what is read here, the value seen by view, or that memory ran out
+abbrev pub Answers : {X A : Type 0} → (X → A) → Result X ExpandFault → Result A ExpandFault → Type 0
+Answers view (Ok x) reading = reading ≡ Ok (view x)
+Answers view (Err fault) reading = (fault ≡ NoMemory) ⊎ (reading ≡ Err fault)
+
+-- an argument of a call
+abbrev pub argument_of : Given → Argument
+argument_of g = record { name = g.name; plain = map marked g.plain.items; expanded = map marked g.expanded.items }
+
+-- a piece of a replacement list
+abbrev pub piece_of : Cell → Piece
+piece_of (cell.Word h) = Word (marked h)
+piece_of (cell.Gap space) = Gap space
+piece_of (cell.Joins t) = Joins t
+
+-- pieces before those that are put in
+abbrev pub onto : List Piece → Result (List Piece × Before) ExpandFault → Result (List Piece × Before) ExpandFault
+onto pieces (Ok put) = Ok (pieces ++ put.0, put.1)
+onto pieces (Err fault) = Err fault
+
+-- whether the name stands in front, directly behind an operator or directly before `##`
+abbrev pub is_bound : List ℕ → Bool → List Token → Bool
+is_bound name behind_operator [] = false
+is_bound name behind_operator (t ∷ ts) = is_named name t && (behind_operator || paste_follows ts)
+
+-- whether the name stands somewhere in a replacement list directly behind `#` or `##` or directly before `##`
+unfoldable pub stands_bound : List ℕ → Bool → List Token → Bool
+stands_bound name behind_operator [] = false
+stands_bound name behind_operator (t ∷ ts) = is_bound name behind_operator (t ∷ ts) || stands_bound name (is_paste t || is_hash t) ts
+
+-- the next parameter of those that are left, and those behind it
+abbrev pub ParamAt : Option (List ℕ) → List (List ℕ) → List (List ℕ) → Type 0
+ParamAt (Some name) left behind = left ≡ name ∷ behind
+ParamAt None left behind = left ≡ []

@@ -1,0 +1,59 @@
+// The expansion of a text.
+ghost use Rattle.std.specs.Prelude.{◌≡◌, IfOk, map};
+ghost use Rattle.macro_expand.specs.Macros.{macros_of};
+ghost use Rattle.macro_expand.specs.Expansion.{has_lone_quote};
+ghost use Rattle.macro_expand.specs.Rules.{ExpandsTo};
+ghost use Rattle.macro_expand.specs.Answering.{IsAnswer};
+
+use crate::fault::ExpandFault;
+use crate::here::Here;
+use crate::hidden::Hidden;
+use crate::known::Definitions;
+use crate::machine::run;
+use crate::slots::fresh_list;
+use crate::token::is_lone_quote;
+use macro_table::Table;
+use pp_tokens::{Token, Tokens};
+use std::alloc::{AllocError, Global};
+
+/// Whether a quote that nothing closes is among the tokens.
+fn has_lone_quote(tokens: &[Token]) -> bool
+    ensures { result ≡ has_lone_quote tokens.now }
+{
+    for token in tokens {
+        if is_lone_quote(token.kind) {
+            return true;
+        }
+    }
+    false
+}
+
+/// The tokens without their hide sets.
+fn without_hides(alloc: Global, tokens: Vec<Hidden>) -> Result<Tokens, AllocError>
+    ensures { IfOk result (λ all. all ≡ map (λ h. h.token) tokens.items) }
+{
+    let mut all = Vec::new(alloc);
+    for hidden in tokens {
+        all.push(hidden.token)?;
+    }
+    Ok(Tokens::from_vec(all))
+}
+
+/// What the tokens expand to under the table (C17 6.10.3), or the first fault.
+pub fn expand(
+    alloc: Global,
+    table: &Table,
+    here: &Here,
+    tokens: &Tokens,
+) -> Result<Tokens, ExpandFault>
+    ensures exact { IsAnswer (ExpandsTo (macros_of table.now) here.now tokens.now) result }
+{
+    if has_lone_quote(tokens.as_slice()) {
+        return Err(ExpandFault::LoneQuote);
+    }
+    let slots = fresh_list(alloc, tokens.as_slice())?;
+    let mut definitions = Definitions::new(alloc, table);
+    let out = run(alloc, here, &mut definitions, slots)?;
+    let all = without_hides(alloc, out)?;
+    Ok(all)
+}

@@ -1,0 +1,58 @@
+ghost use Rattle.std.specs.Prelude.{◌≡◌};
+ghost use Rattle.macro_expand.specs.declared.fault.ExpandFault.TheVariants.{NoMemory as OutOfMemory};
+
+use mac_base::{Bytes, NoMemory};
+use std::alloc::{AllocError, AllocFailed};
+use thiserror::Error;
+
+/// Why a text has no expansion.
+#[derive(Debug, Drop, Error)]
+pub enum ExpandFault {
+    /// The arguments of a call of this macro are not closed (C17 6.10.3 p4).
+    #[error("a call is not closed")]
+    OpenCall { name: Bytes },
+    /// A call of this macro has so many arguments, which do not fit its parameters (6.10.3 p4).
+    #[error("a call has {got} arguments, which do not fit")]
+    ArgCount { name: Bytes, got: u64 },
+    /// These two tokens are not one token together (6.10.3.3 p3).
+    #[error("two tokens are not one token together")]
+    BadPaste { left: Bytes, right: Bytes },
+    /// An argument of this macro does not make one string (6.10.3.2 p2).
+    #[error("an argument makes no string")]
+    BadString { name: Bytes },
+    /// The text that the table has for this name is no definition.
+    #[error("a text is no definition")]
+    BadDefinition { name: Bytes },
+    /// A quote that nothing closes stands in the text.
+    #[error("a quote is not closed")]
+    LoneQuote,
+    /// More than 4,194,304 tokens were put in.
+    #[error("the expansion is too long")]
+    TooLong,
+    #[error("out of memory")]
+    NoMemory,
+}
+
+impl From<NoMemory> for ExpandFault {
+    ghost from_gives = { λ _ fault. fault ≡ OutOfMemory };
+
+    fn from(_fault: NoMemory) -> ExpandFault {
+        ExpandFault::NoMemory
+    }
+}
+
+impl From<AllocError> for ExpandFault {
+    ghost from_gives = { λ _ fault. fault ≡ OutOfMemory };
+
+    fn from(_fault: AllocError) -> ExpandFault {
+        ExpandFault::NoMemory
+    }
+}
+
+impl<T: Drop> From<AllocFailed<T>> for ExpandFault {
+    ghost from_gives = { λ _ fault. fault ≡ OutOfMemory };
+
+    fn from(_fault: AllocFailed<T>) -> ExpandFault {
+        ExpandFault::NoMemory
+    }
+}

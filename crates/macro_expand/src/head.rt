@@ -1,0 +1,274 @@
+// What stands at the head of the first list (C17 6.10.3 p9 and p10, 6.10.3.4, 6.10.8.1).
+ghost use Rattle.std.specs.Prelude.{◌≡◌, ◌∷◌, ◌++◌, [], IfOk, OnOk, decimal, flat_map, ◌&&◌, length, if◌then◌else◌};
+ghost use Rattle.macro_expand.specs.Marked.{with_name as with_name_of, intersection as intersection_of};
+ghost use Rattle.macro_expand.specs.Macros.{macros_of, named_params};
+ghost use Rattle.macro_expand.specs.Calls.{first_list, other_lists, closed, Closed};
+ghost use Rattle.macro_expand.specs.Heads.{is_kept, in_file, instead, head_of, seen_head as seen_head_of, macro_head as macro_head_of, call_head as call_head_of};
+ghost use Rattle.macro_expand.specs.States.{marked, hidden_names, name_text};
+ghost use Rattle.macro_expand.specs.Slots.{lists, first_part};
+ghost use Rattle.macro_expand.specs.Taking.{IsHead, IsCall, no_named, closes};
+
+use crate::fault::ExpandFault;
+use crate::here::Here;
+use crate::hidden::Hidden;
+use crate::hide::{HideSet, Name, hides, intersection, with_name};
+use crate::known::{Definitions, Known};
+use crate::params::{fits_count, named_count, param_count};
+use crate::part::Part;
+use crate::slots::{Cut, Slot, cut_arguments, next_part, next_token, opens_next};
+use crate::token::is_identifier;
+use mac_base::Bytes;
+use macro_table::Def;
+use pp_tokens::{Kind, Token};
+use std::alloc::{AllocError, Global};
+use std::rc::Rc;
+
+/// The name of a macro that is replaced. Its arguments from the parameter `next` on are the first lists, `count` of them.
+#[derive(Drop)]
+pub struct Replacing {
+    pub def: Rc<Def>,
+    pub name: Bytes,
+    pub space: bool,
+    pub hides: HideSet,
+    pub next: usize,
+    pub count: usize,
+}
+
+/// What stands at the head of a list.
+#[derive(Drop)]
+pub enum NextHead {
+    /// Nothing.
+    Finished,
+    /// A token that stays.
+    Stays(Hidden),
+    /// A name that is replaced.
+    Replaced(Replacing),
+}
+
+/// Whether the token is no identifier, or a name in its own hide set.
+fn is_kept(hidden: &Hidden) -> bool
+    ensures { result ≡ is_kept (marked hidden.now) }
+{
+    !is_identifier(hidden.token.kind) || hides(&hidden.hides, hidden.token.text.as_slice())
+}
+
+/// The number of the line.
+fn line_text(alloc: Global, line: u64) -> Result<Bytes, AllocError>
+    ensures { IfOk result (λ text. text ≡ decimal line) }
+{
+    let text = format!(in alloc; "{line}")?;
+    Ok(Bytes::from_vec(Vec::from_slice(alloc, text.as_bytes())?))
+}
+
+/// Appends a byte of a path.
+fn push_in_file(text: &mut Vec<u8>, byte: u8) -> Result<(), AllocError>
+    ensures { OnOk result (text.new.items ≡ text.old.items ++ in_file byte) }
+{
+    if byte == b'\n' {
+        text.push(b'\\')?;
+        text.push(b'n')?;
+        return Ok(());
+    }
+    if byte == b'"' || byte == b'\\' {
+        text.push(b'\\')?;
+    }
+    text.push(byte)?;
+    Ok(())
+}
+
+/// The path as a string.
+fn file_text(alloc: Global, file: &[u8]) -> Result<Bytes, AllocError>
+    ensures { IfOk result (λ text. text ≡ 34 ∷ flat_map in_file file.now ++ 34 ∷ []) }
+{
+    let mut text = Vec::new(alloc);
+    text.push(b'"')?;
+    for byte in file {
+        push_in_file(&mut text, *byte)?;
+    }
+    text.push(b'"')?;
+    Ok(Bytes::from_vec(text))
+}
+
+/// A token of this kind and text in the place of a name, whose own replacement it hides.
+fn put_instead(alloc: Global, kind: Kind, text: Bytes, hidden: Hidden) -> Result<Hidden, AllocError>
+    ensures { IfOk result (λ h. marked h ≡ instead kind text (marked hidden)) }
+{
+    let Hidden { token, hides } = hidden;
+    let name = Name::new(alloc, token.text)?;
+    let hides = with_name(alloc, &name, &hides)?;
+    Ok(Hidden {
+        token: Token {
+            kind,
+            text,
+            space: token.space,
+        },
+        hides,
+    })
+}
+
+/// Takes the head of the first list.
+pub fn take_head(
+    alloc: Global,
+    here: &Here,
+    definitions: &mut Definitions,
+    slots: &mut Vec<Slot>,
+) -> Result<NextHead, ExpandFault>
+    ensures head { IsHead result (lists slots.old.items) (lists slots.new.items) (head_of (macros_of definitions.old) here.now (first_list (lists slots.old.items))) }
+    ensures kept { definitions.new ≡ definitions.old }
+{
+    let Some(hidden) = next_token(slots) else {
+        return Ok(NextHead::Finished);
+    };
+    if is_kept(&hidden) {
+        return Ok(NextHead::Stays(hidden));
+    }
+    let head = seen_head(alloc, here, definitions, hidden, slots)?;
+    Ok(head)
+}
+
+/// The head of a list that begins with a name that its token does not hide.
+fn seen_head(
+    alloc: Global,
+    here: &Here,
+    definitions: &mut Definitions,
+    hidden: Hidden,
+    slots: &mut Vec<Slot>,
+) -> Result<NextHead, ExpandFault>
+    ensures head { IsHead result (lists slots.old.items) (lists slots.new.items) (seen_head_of (macros_of definitions.old) here.now (marked hidden) (first_list (lists slots.old.items))) }
+    ensures kept { definitions.new ≡ definitions.old }
+{
+    let name = hidden.token.text.as_slice();
+    if name == b"__LINE__".as_slice() {
+        let text = line_text(alloc, here.line)?;
+        return Ok(NextHead::Stays(put_instead(alloc, Kind::Number, text, hidden)?));
+    }
+    if name == b"__FILE__".as_slice() {
+        let text = file_text(alloc, here.file.as_slice())?;
+        return Ok(NextHead::Stays(put_instead(alloc, Kind::Str, text, hidden)?));
+    }
+    let Some(known) = definitions.look_up(alloc, name)? else {
+        return Ok(NextHead::Stays(hidden));
+    };
+    let Known { name, def } = known;
+    let Some(def) = def else {
+        return Err(ExpandFault::BadDefinition {
+            name: hidden.token.text,
+        });
+    };
+    let head = macro_head(alloc, &name, def, hidden, slots)?;
+    Ok(head)
+}
+
+/// The head of a list that begins with the name of a macro.
+fn macro_head(
+    alloc: Global,
+    name: &Name,
+    def: Rc<Def>,
+    hidden: Hidden,
+    slots: &mut Vec<Slot>,
+) -> Result<NextHead, ExpandFault>
+    requires { name_text name.now ≡ hidden.token.text }
+    ensures { IsHead result (lists slots.old.items) (lists slots.new.items) (macro_head_of def.value def.value.params (marked hidden) (first_list (lists slots.old.items))) }
+{
+    if def.params.is_none() {
+        let hides = with_name(alloc, name, &hidden.hides)?;
+        let next = param_count(&def);
+        return Ok(NextHead::Replaced(Replacing {
+            def,
+            name: hidden.token.text,
+            space: hidden.token.space,
+            hides,
+            next,
+            count: 0,
+        }));
+    }
+    if !opens_next(slots.as_slice()) {
+        return Ok(NextHead::Stays(hidden));
+    }
+    let _ = next_token(slots);
+    let head = call_head(alloc, name, def, hidden, slots)?;
+    Ok(head)
+}
+
+/// Whether the next token of the first list is `)`, and the macro has no named parameter.
+fn is_bare(def: &Def, slots: &[Slot]) -> bool
+    ensures { result ≡ (no_named (named_params def.now) && closes (first_part (first_list (lists slots.now)))) }
+{
+    named_count(def) == 0 && matches!(next_part(slots), Some(Part::Closes))
+}
+
+/// How many commas can part the arguments of a call of the macro.
+fn commas_in(def: &Def, slots: &[Slot]) -> usize
+    ensures { result ≡ (if def.now.variadic then length (named_params def.now) else length slots.now) }
+{
+    if def.variadic {
+        named_count(def)
+    } else {
+        slots.len()
+    }
+}
+
+/// Cuts the arguments of a call of the macro out of the first list.
+fn open_call(def: &Def, slots: &mut Vec<Slot>) -> Result<Option<Cut>, AllocError>
+    ensures { IfOk result (λ cut. IsCall cut (lists slots.old.items) (lists slots.new.items) def.now) }
+{
+    if is_bare(def, slots.as_slice()) {
+        let Some(close) = next_token(slots) else {
+            return Ok(None);
+        };
+        return Ok(Some(Cut {
+            count: 0,
+            hides: close.hides,
+        }));
+    }
+    let commas = commas_in(def, slots.as_slice());
+    let cut = cut_arguments(slots, commas)?;
+    Ok(cut)
+}
+
+/// What the replacement of a call hides.
+fn call_hides(
+    alloc: Global,
+    name: &Name,
+    hidden: &HideSet,
+    close: &HideSet,
+) -> Result<HideSet, AllocError>
+    ensures { IfOk result (λ set. hidden_names set ≡ with_name_of (name_text name.now) (intersection_of (hidden_names hidden.now) (hidden_names close.now))) }
+{
+    let both = intersection(alloc, hidden, close)?;
+    let all = with_name(alloc, name, &both)?;
+    Ok(all)
+}
+
+/// The head of a list that begins with a call.
+fn call_head(
+    alloc: Global,
+    name: &Name,
+    def: Rc<Def>,
+    hidden: Hidden,
+    slots: &mut Vec<Slot>,
+) -> Result<NextHead, ExpandFault>
+    requires { name_text name.now ≡ hidden.token.text }
+    ensures { IsHead result (lists slots.old.items) (lists slots.new.items) (call_head_of def.value (marked hidden) (closed (first_list (lists slots.old.items)) 0)) }
+{
+    let Some(cut) = open_call(&def, slots)? else {
+        return Err(ExpandFault::OpenCall {
+            name: hidden.token.text,
+        });
+    };
+    if !fits_count(&def, cut.count) {
+        return Err(ExpandFault::ArgCount {
+            name: hidden.token.text,
+            got: cut.count as u64,
+        });
+    }
+    let hides = call_hides(alloc, name, &hidden.hides, &cut.hides)?;
+    Ok(NextHead::Replaced(Replacing {
+        def,
+        name: hidden.token.text,
+        space: hidden.token.space,
+        hides,
+        next: 0,
+        count: cut.count,
+    }))
+}

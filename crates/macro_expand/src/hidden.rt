@@ -1,0 +1,68 @@
+// Tokens with their hide sets.
+ghost use Rattle.std.specs.Prelude.{◌≡◌, IfOk};
+ghost use Rattle.macro_expand.specs.Marked.{fresh, spaced, hiding};
+ghost use Rattle.macro_expand.specs.States.{marked, hidden_names};
+
+use crate::hide::{HideSet, no_hides, same_hides, union};
+use mac_base::NoMemory;
+use pp_tokens::Token;
+use std::alloc::{AllocError, Global};
+
+/// A token with its hide set.
+#[derive(Drop)]
+pub struct Hidden {
+    pub token: Token,
+    pub hides: HideSet,
+}
+
+/// A token that hides no name.
+pub fn fresh_hidden(token: Token) -> Hidden
+    ensures { marked result ≡ fresh token }
+{
+    Hidden {
+        token,
+        hides: no_hides(),
+    }
+}
+
+/// A copy of a token, which hides no name.
+pub fn fresh_copy(token: &Token) -> Result<Hidden, NoMemory>
+    ensures { IfOk result (λ h. marked h ≡ fresh token.now) }
+{
+    Ok(fresh_hidden(token.copy()?))
+}
+
+/// A copy of a token with its hide set.
+pub fn copy_hidden(hidden: &Hidden) -> Result<Hidden, NoMemory>
+    ensures { IfOk result (λ h. marked h ≡ marked hidden.now) }
+{
+    Ok(Hidden {
+        token: hidden.token.copy()?,
+        hides: same_hides(&hidden.hides)?,
+    })
+}
+
+/// The token with this mark.
+pub fn put_mark(space: bool, hidden: Hidden) -> Hidden
+    ensures { marked result ≡ spaced space (marked hidden) }
+{
+    let Hidden { token, hides } = hidden;
+    let Token {
+        kind,
+        text,
+        space: _,
+    } = token;
+    Hidden {
+        token: Token { kind, text, space },
+        hides,
+    }
+}
+
+/// The token with more names hidden.
+pub fn hide_more(alloc: Global, names: &HideSet, hidden: Hidden) -> Result<Hidden, AllocError>
+    ensures { IfOk result (λ h. marked h ≡ hiding (hidden_names names.now) (marked hidden)) }
+{
+    let Hidden { token, hides } = hidden;
+    let hides = union(alloc, names, &hides)?;
+    Ok(Hidden { token, hides })
+}

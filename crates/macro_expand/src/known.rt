@@ -1,0 +1,123 @@
+// The definitions of a table, each read from its text once.
+ghost use Rattle.std.specs.Prelude.{◌≡◌, IfOk, OnOk, OnErr, Some, None};
+ghost use Rattle.std.specs.Option.{option_map, option_copied};
+ghost use Rattle.std.specs.Map.{lookup};
+ghost use Rattle.std.specs.BTreeMap.{insert_entry};
+ghost use Rattle.std.specs.Ordering.{is_eq, nat_cmp};
+ghost use Rattle.std.specs.Cmp.Lexicographic.{slice_cmp};
+ghost use Rattle.macro_table.specs.Texts.{def_of_text};
+ghost use Rattle.macro_expand.specs.Macros.{macros_of, sound_def};
+ghost use Rattle.macro_expand.specs.Known.{known_def, known_value, def_value, IsMeaning};
+
+use crate::hide::Name;
+use mac_base::{Bytes, NoMemory};
+use macro_table::{Def, Table, TextFault, def_of_text};
+use std::alloc::Global;
+use std::collections::BTreeMap;
+use std::marker::Model;
+use std::rc::Rc;
+
+/// A name with a text in the table: its definition, or none where the text is no definition.
+#[derive(Drop)]
+pub struct Known {
+    pub name: Name,
+    pub def: Option<Rc<Def>>,
+}
+
+/// The same name and definition.
+fn same_known(known: &Known) -> Result<Known, NoMemory>
+    ensures { IfOk result (λ same. known_value same ≡ known_value known.now) }
+{
+    let name = known.name.same()?;
+    match &known.def {
+        None => Ok(Known { name, def: None }),
+        Some(def) => Ok(Known {
+            name,
+            def: Some(def.clone()?),
+        }),
+    }
+}
+
+/// The definition that a text is.
+fn read_def(alloc: Global, text: &[u8]) -> Result<Option<Rc<Def>>, NoMemory>
+    ensures { IfOk result (λ def. option_map def_value def ≡ sound_def (def_of_text text.now)) }
+{
+    match def_of_text(alloc, text) {
+        Ok(def) => Ok(Some(Rc::new(alloc, def)?)),
+        Err(TextFault::NoMemory) => Err(NoMemory),
+        Err(TextFault::Lex(_)) => Ok(None),
+        Err(TextFault::Def(_)) => Ok(None),
+    }
+}
+
+/// What is remembered of the name.
+fn recall<'a>(known: &'a BTreeMap<Vec<u8>, Known>, name: &[u8]) -> Option<&'a Known>
+    ensures { option_copied result ≡ lookup (λ key. is_eq (slice_cmp nat_cmp name.now key.items)) known.now.entries }
+{
+    known.get(name)
+}
+
+/// Remembers what a name stands for.
+fn remember(known: &mut BTreeMap<Vec<u8>, Known>, name: Vec<u8>, one: Known) -> Result<(), NoMemory>
+    ensures ok { OnOk result (known.new.entries ≡ insert_entry (λ a b. slice_cmp nat_cmp a.items b.items) known.old.entries name one) }
+    ensures err { OnErr result (known.new.entries ≡ known.old.entries) }
+{
+    match known.insert(name, one) {
+        Ok(_) => Ok(()),
+        Err(_) => Err(NoMemory),
+    }
+}
+
+/// A table, and the definitions that were read from it. Contracts see the table.
+#[derive(Drop)]
+pub struct Definitions<'a> {
+    table: &'a Table,
+    known: BTreeMap<Vec<u8>, Known>,
+}
+
+impl<'a> Model for Definitions<'a> {
+    ghost use Rattle.std.specs.Prelude.{ℕ};
+    ghost use Rattle.macro_table.specs.Tables.{TableOf};
+    ghost use Rattle.macro_table.specs.Codes.{coded_table};
+    ghost use Rattle.macro_expand.specs.Known.{AreKnown};
+
+    ghost Value = { TableOf ℕ };
+
+    ghost coded = { coded_table };
+
+    ghost view = { λ d. d.table.now };
+
+    ghost invariant = { λ d. AreKnown d.table.now d.known.entries };
+}
+
+impl<'a> Definitions<'a> {
+    /// None was read yet.
+    pub fn new(alloc: Global, table: &'a Table) -> Definitions<'a>
+        ensures { result ≡ table.now }
+    {
+        Definitions {
+            table,
+            known: BTreeMap::new(alloc),
+        }
+    }
+
+    /// What the name stands for, with its name.
+    pub fn look_up(&mut self, alloc: Global, name: &[u8]) -> Result<Option<Known>, NoMemory>
+        ensures found { IfOk result (λ known. IsMeaning known name.now (macros_of self.old name.now)) }
+        ensures kept { self.new ≡ self.old }
+    {
+        if let Some(known) = recall(&self.known, name) {
+            let same = same_known(known)?;
+            return Ok(Some(same));
+        }
+        let Some(entry) = self.table.get(name) else {
+            return Ok(None);
+        };
+        let def = read_def(alloc, entry.text.as_slice())?;
+        let own = Name::new(alloc, Bytes::from_vec(Vec::from_slice(alloc, name)?))?;
+        let known = Known { name: own, def };
+        let same = same_known(&known)?;
+        remember(&mut self.known, Vec::from_slice(alloc, name)?, known)?;
+        Ok(Some(same))
+    }
+}

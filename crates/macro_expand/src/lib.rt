@@ -1,0 +1,29 @@
+//! Macro expansion (C17 6.10.3): what a list of tokens expands to under a table of macros, and the first fault.
+#![tactic(auto)]
+
+mod before;
+mod cell;
+mod expansion;
+mod fault;
+mod head;
+mod here;
+mod hidden;
+mod hide;
+mod known;
+mod laws;
+mod machine;
+mod one_token;
+mod params;
+mod part;
+mod pasting;
+mod slots;
+mod strings;
+mod substitute;
+#[cfg(test)]
+mod tests;
+mod token;
+
+pub use expansion::expand;
+pub use fault::ExpandFault;
+pub use here::Here;
+pub use laws::one_answer;

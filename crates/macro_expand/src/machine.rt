@@ -1,0 +1,215 @@
+// The expansion as a machine: a stack of lists that wait, and a stack of calls whose argument is being expanded.
+ghost use Rattle.std.specs.Prelude.{if◌then◌else◌, ◌≡◌, ◌<◌, ◌≤◌, ◌+◌, ◌++◌, ◌∷◌, [], ℕ, List, Ok, Err, IfOk, IfErr, OnOk, map, length, drop, suc, false, true, ◌&&◌, Bool, Some, None};
+ghost use Rattle.macro_expand.specs.declared.here.Here.{Here as HereValue};
+ghost use Rattle.macro_expand.specs.Macros.{Macros, macros_of, params_of};
+ghost use Rattle.macro_expand.specs.Calls.{first_list, other_lists, stands_free as stands_free_of};
+ghost use Rattle.macro_expand.specs.Expansion.{limit, expansion};
+ghost use Rattle.macro_expand.specs.States.{Answers, marked, argument_of};
+ghost use Rattle.macro_expand.specs.Slots.{lists};
+ghost use Rattle.macro_expand.specs.Machine.{meaning, replacing, replacing_size, size, GoesOn, IsStep, IsFaultOf, plain_of, lists_after, wanted_in, AnswersList};
+
+use crate::cell::Given;
+use crate::fault::ExpandFault;
+use crate::head::{NextHead, Replacing, take_head};
+use crate::here::Here;
+use crate::hidden::Hidden;
+use crate::known::Definitions;
+use crate::params::{param_at, stands_bound, stands_free};
+use crate::slots::{Slot, copy_list, drop_lists, put_back, take_list};
+use crate::substitute::substitute;
+use mac_base::{Bytes, NoMemory};
+use pp_tokens::Token;
+use std::alloc::{AllocError, Global};
+use std::mem;
+
+/// How much work one expansion may take.
+pub const LIMIT: u64 = 4_194_304;
+
+/// A call whose argument is being expanded: what was put out before it, the call, the arguments before this one, and
+/// this one.
+#[derive(Drop)]
+pub struct Frame {
+    pub out: Vec<Hidden>,
+    pub call: Replacing,
+    pub done: Vec<Given>,
+    pub name: Bytes,
+    pub plain: Vec<Hidden>,
+}
+
+/// The lists that wait, what is put out, the work so far, and the calls that wait, the innermost last.
+#[derive(Drop)]
+pub struct Machine {
+    pub slots: Vec<Slot>,
+    pub out: Vec<Hidden>,
+    pub work: u64,
+    pub frames: Vec<Frame>,
+}
+
+/// Replaces a name whose arguments are all there.
+fn replace(
+    alloc: Global,
+    machine: &mut Machine,
+    call: &Replacing,
+    done: &[Given],
+) -> Result<(), ExpandFault>
+    requires work { machine.old.work ≤ limit }
+    requires all { drop call.now.next (params_of call.now.def.value) ≡ [] }
+    ensures ok { OnOk result ((macros : Macros) (here : HereValue) → GoesOn macros here (replacing macros here machine.old call.now done.now) (suc (replacing_size machine.old call.now)) machine.new) }
+    ensures err { IfErr result (λ fault. (macros : Macros) (here : HereValue) → IsFaultOf fault (replacing macros here machine.old call.now done.now)) }
+{
+    let list = substitute(
+        alloc,
+        &call.def,
+        call.name.as_slice(),
+        call.space,
+        &call.hides,
+        done,
+    )?;
+    let count = list.len() as u64;
+    if count > LIMIT - machine.work {
+        return Err(ExpandFault::TooLong);
+    }
+    machine.work += count;
+    drop_lists(alloc, &mut machine.slots, call.count)?;
+    put_back(&mut machine.slots, list)?;
+    Ok(())
+}
+
+/// Whether the next argument is there and its expansion is wanted.
+fn is_wanted(count: usize, name: &[u8], body: &[Token]) -> bool
+    ensures { result ≡ wanted_in count (stands_free_of name.now false body.now) }
+{
+    if count == 0 {
+        return false;
+    }
+    stands_free(name, body)
+}
+
+/// Takes an argument that is not expanded. One that lacks has no tokens.
+fn take_argument(
+    alloc: Global,
+    count: usize,
+    slots: &mut Vec<Slot>,
+) -> Result<Vec<Hidden>, AllocError>
+    ensures list { IfOk result (λ list. map marked list.items ≡ plain_of count (lists slots.old.items)) }
+    ensures others { IfOk result (λ _. lists slots.new.items ≡ lists_after count (lists slots.old.items)) }
+{
+    if count == 0 {
+        return Ok(Vec::new(alloc));
+    }
+    let list = take_list(alloc, slots)?;
+    Ok(list)
+}
+
+/// A copy of the first list, where its tokens are needed as written. Else none.
+fn plain_copy(alloc: Global, kept: bool, slots: &[Slot]) -> Result<Vec<Hidden>, NoMemory>
+    ensures { IfOk result (λ list. map marked list.items ≡ (if kept then first_list (lists slots.now) else [])) }
+{
+    if !kept {
+        return Ok(Vec::new(alloc));
+    }
+    let list = copy_list(alloc, slots)?;
+    Ok(list)
+}
+
+/// Goes on with a call of whose arguments these are there.
+fn advance(
+    alloc: Global,
+    machine: &mut Machine,
+    mut call: Replacing,
+    mut done: Vec<Given>,
+) -> Result<(), ExpandFault>
+    requires work { machine.old.work ≤ limit }
+    ensures ok { OnOk result ((macros : Macros) (here : HereValue) → GoesOn macros here (replacing macros here machine.old call done.items) (suc (replacing_size machine.old call)) machine.new) }
+    ensures err { IfErr result (λ fault. (macros : Macros) (here : HereValue) → IsFaultOf fault (replacing macros here machine.old call done.items)) }
+{
+    while let Some(name) = param_at(alloc, &call.def, call.next)? {
+        let count = call.count;
+        call.next += 1;
+        call.count = count.saturating_sub(1);
+        if is_wanted(count, name.as_slice(), call.def.body.as_slice()) {
+            let kept = stands_bound(name.as_slice(), call.def.body.as_slice());
+            let plain = plain_copy(alloc, kept, machine.slots.as_slice())?;
+            let out = mem::replace(&mut machine.out, Vec::new(alloc));
+            machine.frames.push(Frame {
+                out,
+                call,
+                done,
+                name,
+                plain,
+            })?;
+            return Ok(());
+        }
+        let plain = take_argument(alloc, count, &mut machine.slots)?;
+        done.push(Given {
+            name,
+            plain,
+            expanded: Vec::new(alloc),
+        })?;
+    }
+    replace(alloc, machine, &call, done.as_slice())?;
+    Ok(())
+}
+
+/// One step. It answers whether there are more.
+fn step(
+    alloc: Global,
+    here: &Here,
+    definitions: &mut Definitions,
+    machine: &mut Machine,
+) -> Result<bool, ExpandFault>
+    requires work { machine.old.work ≤ limit }
+    ensures ok { IfOk result (IsStep (macros_of definitions.old) here.now (meaning (macros_of definitions.old) here.now machine.old) (size machine.old) machine.new) }
+    ensures err { IfErr result (λ fault. IsFaultOf fault (meaning (macros_of definitions.old) here.now machine.old)) }
+    ensures kept { definitions.new ≡ definitions.old }
+{
+    match take_head(alloc, here, definitions, &mut machine.slots)? {
+        NextHead::Stays(token) => {
+            machine.out.push(token)?;
+            Ok(true)
+        }
+        NextHead::Replaced(call) => {
+            advance(alloc, machine, call, Vec::new(alloc))?;
+            Ok(true)
+        }
+        NextHead::Finished => {
+            let Some(frame) = machine.frames.pop() else {
+                return Ok(false);
+            };
+            let Frame {
+                out,
+                call,
+                mut done,
+                name,
+                plain,
+            } = frame;
+            let expanded = mem::replace(&mut machine.out, out);
+            done.push(Given {
+                name,
+                plain,
+                expanded,
+            })?;
+            advance(alloc, machine, call, done)?;
+            Ok(true)
+        }
+    }
+}
+
+/// What the first list expands to.
+pub fn run(
+    alloc: Global,
+    here: &Here,
+    definitions: &mut Definitions,
+    slots: Vec<Slot>,
+) -> Result<Vec<Hidden>, ExpandFault>
+    ensures { AnswersList result (expansion (macros_of definitions.old) here.now (first_list (lists slots.items)) 0) }
+{
+    let mut machine = Machine {
+        slots,
+        out: Vec::new(alloc),
+        work: 0,
+        frames: Vec::new(alloc),
+    };
+    while step(alloc, here, definitions, &mut machine)? {}
+    Ok(machine.out)
+}

@@ -1,0 +1,176 @@
+// The lists of tokens that wait, one behind another in a stack: the next token of the first list is on top.
+ghost use Rattle.std.specs.Prelude.{◌≡◌, ◌++◌, ◌∷◌, [], IfOk, OnOk, map, Some, None, IfSome, vec_len, ◌<◌, drop};
+ghost use Rattle.std.specs.Option.{option_map};
+ghost use Rattle.macro_expand.specs.Marked.{fresh, part_of};
+ghost use Rattle.macro_expand.specs.Calls.{first_list, other_lists};
+ghost use Rattle.macro_expand.specs.Heads.{opens};
+ghost use Rattle.macro_expand.specs.States.{marked, hidden_names};
+ghost use Rattle.macro_expand.specs.Slots.{places, lists, in_front, Takes, first_part, place_part, place_hides, place_of, opened, IsOpened};
+
+use crate::hidden::{Hidden, copy_hidden, fresh_copy};
+use crate::hide::{HideSet, no_hides, same_hides};
+use crate::part::Part;
+use crate::token::{depth_behind, ends_call, is_opening, part, parts_arguments};
+use mac_base::NoMemory;
+use pp_tokens::Token;
+use std::alloc::{AllocError, Global};
+
+/// A token of a list, or the end of one.
+#[derive(Drop)]
+pub enum Slot {
+    Word(Hidden),
+    End,
+}
+
+/// A list of these tokens alone, none of which hides a name.
+pub fn fresh_list(alloc: Global, tokens: &[Token]) -> Result<Vec<Slot>, NoMemory>
+    ensures { IfOk result (λ slots. lists slots.items ≡ map fresh tokens.now ∷ []) }
+{
+    let mut slots = Vec::new(alloc);
+    slots.push(Slot::End)?;
+    let mut left = tokens;
+    while let Some((token, rest)) = left.split_last() {
+        slots.push(Slot::Word(fresh_copy(token)?))?;
+        left = rest;
+    }
+    Ok(slots)
+}
+
+/// Takes the next token of the first list. Where there is none, the list goes.
+pub fn next_token(slots: &mut Vec<Slot>) -> Option<Hidden>
+    ensures takes { Takes (option_map marked result) (lists slots.old.items) (lists slots.new.items) }
+    ensures less { IfSome result (λ _. vec_len slots.new < vec_len slots.old) }
+{
+    match slots.pop() {
+        Some(Slot::Word(hidden)) => Some(hidden),
+        Some(Slot::End) => None,
+        None => None,
+    }
+}
+
+/// Puts tokens before the first list.
+pub fn put_back(slots: &mut Vec<Slot>, mut list: Vec<Hidden>) -> Result<(), AllocError>
+    ensures { OnOk result (lists slots.new.items ≡ in_front (map marked list.items) (lists slots.old.items)) }
+{
+    while let Some(hidden) = list.pop() {
+        slots.push(Slot::Word(hidden))?;
+    }
+    Ok(())
+}
+
+/// Takes the first list.
+pub fn take_list(alloc: Global, slots: &mut Vec<Slot>) -> Result<Vec<Hidden>, AllocError>
+    ensures list { IfOk result (λ list. map marked list.items ≡ first_list (lists slots.old.items)) }
+    ensures others { IfOk result (λ _. lists slots.new.items ≡ other_lists (lists slots.old.items)) }
+{
+    let mut list = Vec::new(alloc);
+    while let Some(hidden) = next_token(slots) {
+        list.push(hidden)?;
+    }
+    Ok(list)
+}
+
+/// Drops so many lists.
+pub fn drop_lists(alloc: Global, slots: &mut Vec<Slot>, count: usize) -> Result<(), AllocError>
+    ensures { OnOk result (lists slots.new.items ≡ drop count (lists slots.old.items)) }
+{
+    for _ in 0..count {
+        let _ = take_list(alloc, slots)?;
+    }
+    Ok(())
+}
+
+/// A copy of the first list.
+pub fn copy_list(alloc: Global, slots: &[Slot]) -> Result<Vec<Hidden>, NoMemory>
+    ensures { IfOk result (λ list. map marked list.items ≡ first_list (lists slots.now)) }
+{
+    let mut list = Vec::new(alloc);
+    let mut left = slots;
+    while let Some((slot, rest)) = left.split_last() {
+        match slot {
+            Slot::Word(hidden) => list.push(copy_hidden(hidden)?)?,
+            Slot::End => return Ok(list),
+        }
+        left = rest;
+    }
+    Ok(list)
+}
+
+/// What a token is to the arguments of a call. The end of a list is nothing.
+fn slot_part(slot: &Slot) -> Option<Part>
+    ensures { result ≡ place_part (place_of slot.now) }
+{
+    match slot {
+        Slot::Word(hidden) => Some(part(&hidden.token)),
+        Slot::End => None,
+    }
+}
+
+/// What the next token of the first list is to the arguments of a call.
+pub fn next_part(slots: &[Slot]) -> Option<Part>
+    ensures { result ≡ first_part (first_list (lists slots.now)) }
+{
+    let Some((slot, _)) = slots.split_last() else {
+        return None;
+    };
+    slot_part(slot)
+}
+
+/// Whether the next token of the first list is `(`.
+pub fn opens_next(slots: &[Slot]) -> bool
+    ensures { result ≡ opens (first_list (lists slots.now)) }
+{
+    match next_part(slots) {
+        None => false,
+        Some(part) => is_opening(part),
+    }
+}
+
+/// The hide set of a token. That of the end of a list is empty.
+fn slot_hides(slot: &Slot) -> Result<HideSet, AllocError>
+    ensures { IfOk result (λ set. hidden_names set ≡ place_hides (place_of slot.now)) }
+{
+    match slot {
+        Slot::Word(hidden) => same_hides(&hidden.hides),
+        Slot::End => Ok(no_hides()),
+    }
+}
+
+/// How many arguments a call has, and the hide set of the parenthesis that closes it.
+#[derive(Drop)]
+pub struct Cut {
+    pub count: usize,
+    pub hides: HideSet,
+}
+
+/// Cuts the first list, which begins behind the `(` of a call, into its arguments and what follows it: each comma that
+/// parts two arguments, so many at most, and the parenthesis that closes become ends of lists.
+pub fn cut_arguments(slots: &mut Vec<Slot>, commas: usize) -> Result<Option<Cut>, AllocError>
+    ensures { IfOk result (λ cut. IsOpened cut slots.new.items (opened (places slots.old.items) commas 0)) }
+{
+    let mut count: usize = 0;
+    let mut left = commas;
+    let mut depth: usize = 0;
+    let mut at = slots.len();
+    while at > 0 {
+        at -= 1;
+        let slot = &slots[at];
+        let Some(kind) = slot_part(slot) else {
+            return Ok(None);
+        };
+        if ends_call(kind, depth) {
+            let hides = slot_hides(slot)?;
+            slots[at] = Slot::End;
+            count += 1;
+            return Ok(Some(Cut { count, hides }));
+        }
+        if parts_arguments(kind, left, depth) {
+            slots[at] = Slot::End;
+            left = left.saturating_sub(1);
+            count += 1;
+        } else {
+            depth = depth_behind(kind, depth);
+        }
+    }
+    Ok(None)
+}
