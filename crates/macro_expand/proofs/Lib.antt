@@ -15,4 +15,5 @@ pub mod CallLemmas
 pub mod HeadLemmas
 pub mod TrimLemmas
 pub mod Moves
+pub mod LevelMoves
 pub mod TextAnswers

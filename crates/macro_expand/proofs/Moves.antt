@@ -30,11 +30,11 @@ pub fault_as : {A B : Type 0} (fault : ExpandFault) (r : Result A ExpandFault) (
 fault_as fault r s h (inl m) = inl m
 fault_as fault r s h (inr e) = inr (h e)
 
-after_after : (xs ys : List Marked) (a : Answer) → after xs (after ys a) ≡ after (xs ++ ys) a
+pub after_after : (xs ys : List Marked) (a : Answer) → after xs (after ys a) ≡ after (xs ++ ys) a
 after_after xs ys (Ok r) = ap (λ l. Ok (l, r.1)) (sym (append_assoc xs ys r.0))
 after_after xs ys (Err e) = refl
 
-after_nothing : (a : Answer) → after [] a ≡ a
+pub after_nothing : (a : Answer) → after [] a ≡ a
 after_nothing (Ok r) = refl
 after_nothing (Err e) = refl
 
@@ -232,17 +232,17 @@ drop_nil : {A : Type 0} (k : ℕ) → drop {A = A} k [] ≡ []
 drop_nil zero = refl
 drop_nil (suc k) = refl
 
-take_first : (c : ℕ) (ls : List (List Marked)) → first_list (take c ls) ≡ plain_of c ls
+pub take_first : (c : ℕ) (ls : List (List Marked)) → first_list (take c ls) ≡ plain_of c ls
 take_first zero ls = refl
 take_first (suc k) [] = refl
 take_first (suc k) (a ∷ more) = refl
 
-take_others : (c : ℕ) (ls : List (List Marked)) → other_lists (take c ls) ≡ take (c - 1) (lists_after c ls)
+pub take_others : (c : ℕ) (ls : List (List Marked)) → other_lists (take c ls) ≡ take (c - 1) (lists_after c ls)
 take_others zero ls = refl
 take_others (suc k) [] = sym (let e : suc k - 1 ≡ k = omega arith in ap (λ n. take n []) e ∙ take_nil k)
 take_others (suc k) (a ∷ more) = let e : k ≡ suc k - 1 = omega arith in ap (λ n. take n more) e
 
-drop_after : (c : ℕ) (ls : List (List Marked)) → drop c ls ≡ drop (c - 1) (lists_after c ls)
+pub drop_after : (c : ℕ) (ls : List (List Marked)) → drop c ls ≡ drop (c - 1) (lists_after c ls)
 drop_after zero ls = refl
 drop_after (suc k) [] = sym (let e : suc k - 1 ≡ k = omega arith in ap (λ n. drop n []) e ∙ drop_nil k)
 drop_after (suc k) (a ∷ more) = let e : k ≡ suc k - 1 = omega arith in ap (λ n. drop n more) e

@@ -1,20 +1,17 @@
--- What a text expands to, from the answer of the machine.
-use Rattle.std.proofs.Common.{◌≡◌, false, List, [], ◌∷◌, map, Vec, Result, Ok, Err, ◌⊎◌, inl, inr, refl, sym, ap, ◌∙◌, subst}
+-- What a text expands to, from the answer of the code for its list.
+use Rattle.std.proofs.Common.{◌≡◌, ℕ, false, List, [], ◌∷◌, map, Vec, Result, Ok, Err, ◌⊎◌, inl, inr, refl, sym, ap, ◌∙◌, subst}
 use Rattle.std.specs.declared.alloc.Global.{Global}
 use Rattle.pp_tokens.specs.declared.token.Token.{Token}
-use Rattle.macro_expand.specs.declared.here.Here.{Here}
 use Rattle.macro_expand.specs.declared.hidden.Hidden.{Hidden}
 use Rattle.macro_expand.specs.declared.fault.ExpandFault.{ExpandFault}
 use Rattle.macro_expand.specs.declared.fault.ExpandFault.TheVariants.{NoMemory, OpenCall, ArgCount, BadPaste, BadString, BadDefinition, LoneQuote, TooLong}
 use Rattle.macro_expand.specs.Marked.{Marked, fresh}
-use Rattle.macro_expand.specs.Macros.{Macros}
 use Rattle.macro_expand.specs.Calls.{first_list}
-use Rattle.macro_expand.specs.Expansion.{Answer, expansion, has_lone_quote, tokens_of}
-use Rattle.macro_expand.specs.Rules.{Expands, ExpandsTo, Scanned}
+use Rattle.macro_expand.specs.Expansion.{Answer, has_lone_quote, tokens_of}
+use Rattle.macro_expand.specs.Rules.{Whole, Scanned}
 use Rattle.macro_expand.specs.States.{marked}
 use Rattle.macro_expand.specs.Machine.{AnswersList}
 use Rattle.macro_expand.specs.Answering.{IsAnswer}
-use Rattle.macro_expand.proofs.OneAnswer.{complete}
 
 tokens_same : (list : List Hidden) → map (λ (m : Marked). m.token) (map marked list) ≡ map (λ (h : Hidden). h.token) list
 tokens_same [] = refl
@@ -34,17 +31,19 @@ answer_is R TooLong r = r
 pub no_memory : (R : Result (List Token) ExpandFault → Type 0) (fault : ExpandFault) → fault ≡ NoMemory → IsAnswer R (Err fault)
 no_memory R fault e = subst (λ f. IsAnswer R (Err f)) (sym e) tt
 
-module _ (macros : Macros) (here : Here) (tokens : List Token) (ls : List (List Marked)) (l : has_lone_quote tokens ≡ false) (s : ls ≡ map fresh tokens ∷ []) where
-  scanned : (answer : Answer) → expansion macros here (first_list ls) 0 ≡ answer → ExpandsTo macros here tokens (tokens_of answer)
-  scanned answer e = Scanned l (subst (λ a. Expands macros here (map fresh tokens) 0 a) (ap (λ x. expansion macros here (first_list x) 0) (sym s) ∙ e) (complete macros here (map fresh tokens) 0))
+-- A text from the answer for its only list, where the rules give what `go` gives.
+module _ (Lists : List Marked → ℕ → Answer → Type 0) (go : List Marked → ℕ → Answer) (complete : (list : List Marked) (work : ℕ) → Lists list work (go list work))
+    (tokens : List Token) (ls : List (List Marked)) (l : has_lone_quote tokens ≡ false) (s : ls ≡ map fresh tokens ∷ []) where
+  scanned : (answer : Answer) → go (first_list ls) 0 ≡ answer → Whole Lists tokens (tokens_of answer)
+  scanned answer e = Scanned l (subst (λ a. Lists (map fresh tokens) 0 a) (ap (λ x. go (first_list x) 0) (sym s) ∙ e) (complete (map fresh tokens) 0))
 
-  pub exact_ok : (list : Vec Hidden Global) (all : List Token) → AnswersList (Ok list) (expansion macros here (first_list ls) 0) → all ≡ map (λ (h : Hidden). h.token) list.items → ExpandsTo macros here tokens (Ok all)
-  exact_ok list all a e = go (expansion macros here (first_list ls) 0) refl a
+  pub exact_ok : (list : Vec Hidden Global) (all : List Token) → AnswersList (Ok list) (go (first_list ls) 0) → all ≡ map (λ (h : Hidden). h.token) list.items → Whole Lists tokens (Ok all)
+  exact_ok list all a e = by (go (first_list ls) 0) refl a
     where
-      go : (answer : Answer) → expansion macros here (first_list ls) 0 ≡ answer → AnswersList (Ok list) answer → ExpandsTo macros here tokens (Ok all)
-      go (Ok r) k m = subst (λ t. ExpandsTo macros here tokens (Ok t)) (ap (map (λ (m : Marked). m.token)) (sym m) ∙ tokens_same list.items ∙ sym e) (scanned (Ok r) k)
-      go (Err fault) k m = absurd m
+      by : (answer : Answer) → go (first_list ls) 0 ≡ answer → AnswersList (Ok list) answer → Whole Lists tokens (Ok all)
+      by (Ok r) k m = subst (λ t. Whole Lists tokens (Ok t)) (ap (map (λ (m : Marked). m.token)) (sym m) ∙ tokens_same list.items ∙ sym e) (scanned (Ok r) k)
+      by (Err fault) k m = absurd m
 
-  pub exact_err : (fault : ExpandFault) → (fault ≡ NoMemory) ⊎ (expansion macros here (first_list ls) 0 ≡ Err fault) → IsAnswer (ExpandsTo macros here tokens) (Err fault)
-  exact_err fault (inl m) = no_memory (ExpandsTo macros here tokens) fault m
-  exact_err fault (inr e) = answer_is (ExpandsTo macros here tokens) fault (scanned (Err fault) e)
+  pub exact_err : (fault : ExpandFault) → (fault ≡ NoMemory) ⊎ (go (first_list ls) 0 ≡ Err fault) → IsAnswer (Whole Lists tokens) (Err fault)
+  exact_err fault (inl m) = no_memory (Whole Lists tokens) fault m
+  exact_err fault (inr e) = answer_is (Whole Lists tokens) fault (scanned (Err fault) e)

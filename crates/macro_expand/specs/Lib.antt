@@ -11,4 +11,5 @@ pub mod Slots
 pub mod Known
 pub mod Taking
 pub mod Machine
+pub mod Levels
 pub mod Answering

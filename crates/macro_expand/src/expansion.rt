@@ -17,7 +17,7 @@ use pp_tokens::{Token, Tokens};
 use std::alloc::{AllocError, Global};
 
 /// Whether a quote that nothing closes is among the tokens.
-fn has_lone_quote(tokens: &[Token]) -> bool
+pub fn has_lone_quote(tokens: &[Token]) -> bool
     ensures { result ≡ has_lone_quote tokens.now }
 {
     for token in tokens {
@@ -29,7 +29,7 @@ fn has_lone_quote(tokens: &[Token]) -> bool
 }
 
 /// The tokens without their hide sets.
-fn without_hides(alloc: Global, tokens: Vec<Hidden>) -> Result<Tokens, AllocError>
+pub fn without_hides(alloc: Global, tokens: Vec<Hidden>) -> Result<Tokens, AllocError>
     ensures { IfOk result (λ all. all ≡ map (λ h. h.token) tokens.items) }
 {
     let mut all = Vec::new(alloc);

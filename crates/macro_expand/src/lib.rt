@@ -1,4 +1,5 @@
-//! Macro expansion (C17 6.10.3): what a list of tokens expands to under a table of macros, and the first fault.
+//! Macro expansion (C17 6.10.3): what a list of tokens expands to under a table of macros, wholly or at a single level,
+//! and the first fault.
 #![tactic(auto)]
 
 mod before;
@@ -12,6 +13,7 @@ mod hide;
 mod known;
 mod laws;
 mod machine;
+mod once;
 mod one_token;
 mod params;
 mod part;
@@ -27,3 +29,4 @@ pub use expansion::expand;
 pub use fault::ExpandFault;
 pub use here::Here;
 pub use laws::one_answer;
+pub use once::expand_once;

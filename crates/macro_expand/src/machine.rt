@@ -86,7 +86,7 @@ fn is_wanted(count: usize, name: &[u8], body: &[Token]) -> bool
 }
 
 /// Takes an argument that is not expanded. One that lacks has no tokens.
-fn take_argument(
+pub fn take_argument(
     alloc: Global,
     count: usize,
     slots: &mut Vec<Slot>,

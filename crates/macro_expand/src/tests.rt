@@ -1,4 +1,4 @@
-use crate::{ExpandFault, Here, expand};
+use crate::{ExpandFault, Here, expand, expand_once};
 use mac_base::{Bytes, Frames, NoMemory, Place};
 use macro_table::Table;
 use pp_tokens::{Tokens, lex_text};
@@ -84,6 +84,21 @@ fn answer(alloc: Global, defs: &[&[u8]], text: &[u8]) -> Result<Vec<u8>, Fail> {
 
 fn expands(alloc: Global, defs: &[&[u8]], text: &[u8], wanted: &[u8]) -> Result<bool, Fail> {
     let found = answer(alloc, defs, text)?;
+    Ok(found.as_slice() == wanted)
+}
+
+/// The same at a single level.
+fn once(alloc: Global, defs: &[&[u8]], text: &[u8], wanted: &[u8]) -> Result<bool, Fail> {
+    let table = table_of(alloc, defs)?;
+    let here = Here {
+        line: 3,
+        file: Bytes::new(alloc),
+    };
+    let tokens = lex_text(alloc, text)?;
+    let found = match expand_once(alloc, &table, &here, &tokens) {
+        Ok(list) => written(alloc, &list)?,
+        Err(fault) => fault_text(alloc, &fault)?,
+    };
     Ok(found.as_slice() == wanted)
 }
 
@@ -221,6 +236,25 @@ fn arguments(rt: HostRuntime) -> Result<(), Fail> {
     );
     assert!(rt; expands(alloc, small, b"k(A)", b"\"A\" AA 1")?);
     assert!(rt; expands(alloc, small, b"f(f(f(f)))(2) s(Z) f", b"f(2) \"Z\" f")?);
+    Ok(())
+}
+
+#[test]
+fn a_single_level(rt: HostRuntime) -> Result<(), Fail> {
+    let alloc = rt.alloc();
+    let defs: [&[u8]; 3] = [b"ADD(x) (M + x)", b"M 42", b"S(x) #x x"];
+    let defs = defs.as_slice();
+    assert!(rt; once(alloc, defs, b"ADD(1)", b"(M + 1)")?);
+    assert!(rt;
+        once(
+            alloc,
+            defs,
+            b"M ADD(M) S( ADD(1) ) ADD",
+            b"42 (M + M) \"ADD(1)\" ADD(1) ADD"
+        )?
+    );
+    assert!(rt; once(alloc, defs, b"M ADD(1", b"OpenCall ADD")?);
+    assert!(rt; once(alloc, defs, b"__LINE__ 'M", b"LoneQuote")?);
     Ok(())
 }
 

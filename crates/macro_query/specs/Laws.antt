@@ -8,6 +8,7 @@ use Rattle.position_table.specs.declared.position.Position.{Position}
 abbrev pub One : (Result (List ℕ) QueryFault → Type 0) → Type 0
 One Says = (said : Result (List ℕ) QueryFault) × Says said × ((other : Result (List ℕ) QueryFault) → Says other → other ≡ said)
 
+-- there is exactly one thing to be said to each query
 pub record QueriesHaveOneAnswer : Type 0 where
   pub raw : (bytes : List ℕ) → One (RawSays bytes)
   pub unit : (offset : ℕ) (file : List ℕ) → One (UnitAtSays offset file)
