@@ -3,7 +3,7 @@ use Rattle.std.proofs.Common.{◌≡◌, ℕ, Bool, true, false, cond, ◌||◌,
 use Rattle.std.proofs.Math.Path.{fun_ext}
 use Rattle.std.proofs.lemmas.Slice.Eq.{bytes_eq-Decides}
 use Rattle.macro_expand.specs.Marked.{Names, union, intersection}
-use Rattle.macro_expand.specs.States.{members, covers_names, missing_names, common_names}
+use Rattle.macro_expand.specs.States.{members, covers_names, same_names, missing_names, common_names}
 
 and_first : (p q : Bool) → (p && q) ≡ true → p ≡ true
 and_first true q h = refl
@@ -16,6 +16,13 @@ and_second false q h = cc
 -- a set gives the same for equal names
 at_equal : (f : Names) (x n : List ℕ) (b : Bool) → f x ≡ b → bytes_eq x n ≡ true → f n ≡ b
 at_equal f x n b h e = ap f (sym ((bytes_eq-Decides x n).0 e)) ∙ h
+
+-- lists of the same names are the same
+pub alike : (xs ys : List (List ℕ)) → same_names xs ys ≡ true → xs ≡ ys
+alike [] [] e = refl
+alike [] (y ∷ ys) e = cc
+alike (x ∷ xs) [] e = cc
+alike (x ∷ xs) (y ∷ ys) e = ap (λ n. n ∷ xs) ((bytes_eq-Decides x y).0 (and_first (bytes_eq x y) (same_names xs ys) e)) ∙ ap (λ l. y ∷ l) (alike xs ys (and_second (bytes_eq x y) (same_names xs ys) e))
 
 -- what is covered is a member
 covered : (a b : List (List ℕ)) (n : List ℕ) → covers_names a b ≡ true → members b n ≡ true → members a n ≡ true

@@ -29,23 +29,23 @@ abbrev pub written_rest : DefValue → ℕ → ℕ → List (List Marked) → Li
 written_rest d next count ls = as_written (waiting d (drop next (params_of d)) (take count ls))
 
 module _ (macros : Macros) (here : Here) where
-  level_by : (l : Level) (h : Head) → head_of macros here (first_list (lists l.slots.items)) ≡ h → level_meaning macros here l ≡ after (map marked l.out.items) (once_from (single_level macros here) h l.work)
-  level_by l h e = ap (after (map marked l.out.items)) (level_step macros here (first_list (lists l.slots.items)) l.work ∙ ap (λ v. once_from (single_level macros here) v l.work) e)
+  level_by : (l : Level) (h : Head) → head_of macros here (first_list (lists l.slots)) ≡ h → level_meaning macros here l ≡ after (map marked l.out.items) (once_from (single_level macros here) h l.work)
+  level_by l h e = ap (after (map marked l.out.items)) (level_step macros here (first_list (lists l.slots)) l.work ∙ ap (λ v. once_from (single_level macros here) v l.work) e)
 
-  level_sized : (l : Level) (h : Head) → head_of macros here (first_list (lists l.slots.items)) ≡ h → IsSized (level_size l) h
-  level_sized l h e = subst (λ v. IsSized (level_size l) v) e (head_sized macros here (first_list (lists l.slots.items)))
+  level_sized : (l : Level) (h : Head) → head_of macros here (first_list (lists l.slots)) ≡ h → IsSized (level_size l) h
+  level_sized l h e = subst (λ v. IsSized (level_size l) v) e (head_sized macros here (first_list (lists l.slots)))
 
-  pub level_fault : (l : Level) (fault : ExpandFault) → (fault ≡ NoMemory) ⊎ (head_of macros here (first_list (lists l.slots.items)) ≡ Fails fault) → IsFaultOf fault (level_meaning macros here l)
+  pub level_fault : (l : Level) (fault : ExpandFault) → (fault ≡ NoMemory) ⊎ (head_of macros here (first_list (lists l.slots)) ≡ Fails fault) → IsFaultOf fault (level_meaning macros here l)
   level_fault l fault (inl e) = inl e
   level_fault l fault (inr e) = inr (level_by l (Fails fault) e)
 
-  pub level_end : (l : Level) → head_of macros here (first_list (lists l.slots.items)) ≡ Finished → level_meaning macros here l ≡ Ok (map marked l.out.items, l.work)
+  pub level_end : (l : Level) → head_of macros here (first_list (lists l.slots)) ≡ Finished → level_meaning macros here l ≡ Ok (map marked l.out.items, l.work)
   level_end l e = level_by l Finished e ∙ ap (λ x. Ok (x, l.work)) (append-nil (map marked l.out.items))
 
-  pub level_stays : (l n : Level) (k : Hidden) → head_of macros here (first_list (lists l.slots.items)) ≡ Stays (marked k) (first_list (lists n.slots.items)) → n.out.items ≡ l.out.items ++ k ∷ [] → n.work ≡ l.work → l.work ≤ limit →
+  pub level_stays : (l n : Level) (k : Hidden) → head_of macros here (first_list (lists l.slots)) ≡ Stays (marked k) (first_list (lists n.slots)) → n.out.items ≡ l.out.items ++ k ∷ [] → n.work ≡ l.work → l.work ≤ limit →
       LevelGoesOn macros here (level_meaning macros here l) (level_size l) n
   level_stays l n k e o w limited =
-      let rest : List Marked = first_list (lists n.slots.items) in
+      let rest : List Marked = first_list (lists n.slots) in
       record {
         same = ap (λ x. after x (single_level macros here rest n.work)) (ap (map marked) o ∙ map_push marked l.out.items k)
             ∙ ap (λ x. after (map marked l.out.items ++ marked k ∷ []) (single_level macros here rest x)) w
@@ -55,43 +55,43 @@ module _ (macros : Macros) (here : Here) where
       }
 
   -- a name that is replaced, where the code has its call
-  pub level_replaced : (l n m : Level) (r : Replacing) → head_of macros here (first_list (lists l.slots.items)) ≡ Replaced (call_of r (lists n.slots.items)) → n.out ≡ l.out → n.work ≡ l.work →
-      LevelGoesOn macros here (level_replacing macros here n r) (suc (length (call_of r (lists n.slots.items)).rest)) m → LevelGoesOn macros here (level_meaning macros here l) (level_size l) m
+  pub level_replaced : (l n m : Level) (r : Replacing) → head_of macros here (first_list (lists l.slots)) ≡ Replaced (call_of r (lists n.slots)) → n.out ≡ l.out → n.work ≡ l.work →
+      LevelGoesOn macros here (level_replacing macros here n r) (suc (length (call_of r (lists n.slots)).rest)) m → LevelGoesOn macros here (level_meaning macros here l) (level_size l) m
   level_replaced l n m r e o w g =
-      let s : weight (call_of r (lists n.slots.items)).args + length (call_of r (lists n.slots.items)).rest < level_size l = level_sized l (Replaced (call_of r (lists n.slots.items))) e in
+      let s : weight (call_of r (lists n.slots)).args + length (call_of r (lists n.slots)).rest < level_size l = level_sized l (Replaced (call_of r (lists n.slots))) e in
       record { same = g.same ∙ replacing_is l n r e o w; less = omega (arith, g.less, s); work = g.work }
     where
-      replacing_is : (l n : Level) (r : Replacing) → head_of macros here (first_list (lists l.slots.items)) ≡ Replaced (call_of r (lists n.slots.items)) → n.out ≡ l.out → n.work ≡ l.work → level_replacing macros here n r ≡ level_meaning macros here l
+      replacing_is : (l n : Level) (r : Replacing) → head_of macros here (first_list (lists l.slots)) ≡ Replaced (call_of r (lists n.slots)) → n.out ≡ l.out → n.work ≡ l.work → level_replacing macros here n r ≡ level_meaning macros here l
       replacing_is l n r e o w =
-          ap (λ x. after (map marked x.items) (once_from (single_level macros here) (Replaced (call_of r (lists n.slots.items))) n.work)) o
-          ∙ ap (λ x. after (map marked l.out.items) (once_from (single_level macros here) (Replaced (call_of r (lists n.slots.items))) x)) w
-          ∙ sym (level_by l (Replaced (call_of r (lists n.slots.items))) e)
+          ap (λ x. after (map marked x.items) (once_from (single_level macros here) (Replaced (call_of r (lists n.slots))) n.work)) o
+          ∙ ap (λ x. after (map marked l.out.items) (once_from (single_level macros here) (Replaced (call_of r (lists n.slots))) x)) w
+          ∙ sym (level_by l (Replaced (call_of r (lists n.slots))) e)
 
-  pub level_replaced_fault : (l n : Level) (r : Replacing) (fault : ExpandFault) → head_of macros here (first_list (lists l.slots.items)) ≡ Replaced (call_of r (lists n.slots.items)) → n.out ≡ l.out → n.work ≡ l.work →
+  pub level_replaced_fault : (l n : Level) (r : Replacing) (fault : ExpandFault) → head_of macros here (first_list (lists l.slots)) ≡ Replaced (call_of r (lists n.slots)) → n.out ≡ l.out → n.work ≡ l.work →
       IsFaultOf fault (level_replacing macros here n r) → IsFaultOf fault (level_meaning macros here l)
   level_replaced_fault l n r fault e o w (inl f) = inl f
   level_replaced_fault l n r fault e o w (inr f) =
-      inr (level_by l (Replaced (call_of r (lists n.slots.items))) e
-      ∙ ap (λ x. after (map marked l.out.items) (once_from (single_level macros here) (Replaced (call_of r (lists n.slots.items))) x)) (sym w)
-      ∙ ap (λ x. after (map marked x.items) (once_from (single_level macros here) (Replaced (call_of r (lists n.slots.items))) n.work)) (sym o) ∙ f)
+      inr (level_by l (Replaced (call_of r (lists n.slots))) e
+      ∙ ap (λ x. after (map marked l.out.items) (once_from (single_level macros here) (Replaced (call_of r (lists n.slots))) x)) (sym w)
+      ∙ ap (λ x. after (map marked x.items) (once_from (single_level macros here) (Replaced (call_of r (lists n.slots))) n.work)) (sym o) ∙ f)
 
   -- The list that replaces a name.
 
-  pub put_fault : (l : Level) (r : Replacing) (fault : ExpandFault) → IsFaultOf fault (put_by (call_of r (lists l.slots.items))) → IsFaultOf fault (level_replacing macros here l r)
+  pub put_fault : (l : Level) (r : Replacing) (fault : ExpandFault) → IsFaultOf fault (put_by (call_of r (lists l.slots))) → IsFaultOf fault (level_replacing macros here l r)
   put_fault l r fault (inl e) = inl e
   put_fault l r fault (inr e) = inr (rw e refl)
 
-  pub put_too_long : (l : Level) (r : Replacing) (list : List Hidden) → put_by (call_of r (lists l.slots.items)) ≡ Ok (map marked list) → limit < l.work + length list → level_replacing macros here l r ≡ Err TooLong
+  pub put_too_long : (l : Level) (r : Replacing) (list : List Hidden) → put_by (call_of r (lists l.slots)) ≡ Ok (map marked list) → limit < l.work + length list → level_replacing macros here l r ≡ Err TooLong
   put_too_long l r list e h =
-      let c : Call = call_of r (lists l.slots.items) in
+      let c : Call = call_of r (lists l.slots) in
       let more : limit < l.work + length (map marked list) = omega (arith, length-map list marked) in
       rw e (ap (after (map marked l.out.items)) (within_false (l.work + length (map marked list)) (λ w. after (map marked list) (single_level macros here c.rest w)) more))
 
-  pub put_goes_on : (l n : Level) (r : Replacing) (list : List Hidden) → put_by (call_of r (lists l.slots.items)) ≡ Ok (map marked list) → first_list (lists n.slots.items) ≡ (call_of r (lists l.slots.items)).rest →
+  pub put_goes_on : (l n : Level) (r : Replacing) (list : List Hidden) → put_by (call_of r (lists l.slots)) ≡ Ok (map marked list) → first_list (lists n.slots) ≡ (call_of r (lists l.slots)).rest →
       n.out.items ≡ l.out.items ++ list → n.work ≡ l.work + length list → l.work + length list ≤ limit →
-      LevelGoesOn macros here (level_replacing macros here l r) (suc (length (call_of r (lists l.slots.items)).rest)) n
+      LevelGoesOn macros here (level_replacing macros here l r) (suc (length (call_of r (lists l.slots)).rest)) n
   put_goes_on l n r list e f o w h =
-      let c : Call = call_of r (lists l.slots.items) in
+      let c : Call = call_of r (lists l.slots) in
       let work : n.work ≡ l.work + length (map marked list) = omega (arith, w, length-map list marked) in
       let fits : l.work + length (map marked list) ≤ limit = omega (arith, h, length-map list marked) in
       let there : level_meaning macros here n ≡ after (map marked l.out.items) (after (map marked list) (single_level macros here c.rest (l.work + length (map marked list)))) =

@@ -7,8 +7,11 @@ pub mod OneLevel
 pub mod WholeTexts
 pub mod HideLemmas
 pub mod PassLemmas
+pub mod PlainLemmas
 pub mod OneToken
 pub mod SlotLemmas
+pub mod LeapLemmas
+pub mod CutLemmas
 pub mod ParamLemmas
 pub mod KnownLemmas
 pub mod CallLemmas

@@ -55,7 +55,7 @@ module _ (macros : Macros) (here : Here) where
   resume_err [] ls e = refl
   resume_err (g ∷ fs) ls e = ap (returned macros here g (outer fs ls)) (resume_err fs ls e)
 
-  module _ (m : Machine) (old : List (List Marked)) (is_old : lists m.slots.items ≡ old) where
+  module _ (m : Machine) (old : List (List Marked)) (is_old : lists m.slots ≡ old) where
     by_head : (h : Head) → head_of macros here (first_list old) ≡ h → meaning macros here m ≡ resume macros here m.frames.items (other_lists old) (after (map marked m.out.items) (step_from (expansion macros here) h m.work))
     by_head h e =
         ap (λ ls. resume macros here m.frames.items (other_lists ls) (after (map marked m.out.items) (expansion macros here (first_list ls) m.work))) is_old
@@ -73,7 +73,7 @@ module _ (macros : Macros) (here : Here) where
     pub on_end : m.frames.items ≡ [] → head_of macros here (first_list old) ≡ Finished → meaning macros here m ≡ Ok (map marked m.out.items, m.work)
     on_end f e = by_head Finished e ∙ ap (λ fs. resume macros here fs (other_lists old) (Ok (map marked m.out.items ++ [], m.work))) f ∙ ap (λ l. Ok (l, m.work)) (append-nil (map marked m.out.items))
 
-    module _ (n : Machine) (new : List (List Marked)) (is_new : lists n.slots.items ≡ new) (w : n.work ≡ m.work) where
+    module _ (n : Machine) (new : List (List Marked)) (is_new : lists n.slots ≡ new) (w : n.work ≡ m.work) where
       pub on_stays : (k : Hidden) → head_of macros here (first_list old) ≡ Stays (marked k) (first_list new) → other_lists new ≡ other_lists old → n.out.items ≡ m.out.items ++ k ∷ [] → n.frames.items ≡ m.frames.items → m.work ≤ limit → GoesOn macros here (meaning macros here m) (size m) n
       on_stays k e o p f l =
           let s : length (first_list new) < length (first_list old) = sized_by (Stays (marked k) (first_list new)) e in
@@ -174,10 +174,10 @@ module _ (macros : Macros) (here : Here) where
   -- The list of a name whose arguments are all there.
 
   list_of : (m : Machine) (r : Replacing) (done : List Given) → drop r.next (params_of r.def.value) ≡ [] →
-      replacing macros here m r done ≡ resume macros here m.frames.items (skip r (lists m.slots.items)) (after (map marked m.out.items)
-      (substituted r.def.value r.name r.space (hidden_names r.hides) (map argument_of done) >>= (λ list. within (m.work + length list) (expansion macros here (list ++ first_list (drop r.count (lists m.slots.items)))))))
+      replacing macros here m r done ≡ resume macros here m.frames.items (skip r (lists m.slots)) (after (map marked m.out.items)
+      (substituted r.def.value r.name r.space (hidden_names r.hides) (map argument_of done) >>= (λ list. within (m.work + length list) (expansion macros here (list ++ first_list (drop r.count (lists m.slots)))))))
   list_of m r done w =
-      let ls : List (List Marked) = lists m.slots.items in
+      let ls : List (List Marked) = lists m.slots in
       ap (λ ps. resume macros here m.frames.items (skip r ls) (after (map marked m.out.items) (finishing macros here (with_args (call_of r ls) (waiting r.def.value ps (take r.count ls))) (map argument_of done) m.work))) w
       ∙ ap (λ l. resume macros here m.frames.items (skip r ls) (after (map marked m.out.items) (substituted r.def.value r.name r.space (hidden_names r.hides) l >>= (λ list. within (m.work + length list) (expansion macros here (list ++ first_list (drop r.count ls))))))) (append-nil (map argument_of done))
 
@@ -185,41 +185,41 @@ module _ (macros : Macros) (here : Here) where
       IsFaultOf fault (substituted r.def.value r.name r.space (hidden_names r.hides) (map argument_of done)) → IsFaultOf fault (replacing macros here m r done)
   on_list_fault m r done fault w = fault_as fault (substituted r.def.value r.name r.space (hidden_names r.hides) (map argument_of done)) (replacing macros here m r done)
       (λ s. list_of m r done w
-      ∙ ap (λ x. resume macros here m.frames.items (skip r (lists m.slots.items)) (after (map marked m.out.items) (x >>= (λ list. within (m.work + length list) (expansion macros here (list ++ first_list (drop r.count (lists m.slots.items)))))))) s
-      ∙ resume_err m.frames.items (skip r (lists m.slots.items)) fault)
+      ∙ ap (λ x. resume macros here m.frames.items (skip r (lists m.slots)) (after (map marked m.out.items) (x >>= (λ list. within (m.work + length list) (expansion macros here (list ++ first_list (drop r.count (lists m.slots)))))))) s
+      ∙ resume_err m.frames.items (skip r (lists m.slots)) fault)
 
   module _ (m : Machine) (r : Replacing) (done : List Given) (list : List Hidden) (w : drop r.next (params_of r.def.value) ≡ [])
       (s : substituted r.def.value r.name r.space (hidden_names r.hides) (map argument_of done) ≡ Ok (map marked list)) where
-    put : replacing macros here m r done ≡ resume macros here m.frames.items (skip r (lists m.slots.items)) (after (map marked m.out.items)
-        (within (m.work + length list) (expansion macros here (map marked list ++ first_list (drop r.count (lists m.slots.items))))))
+    put : replacing macros here m r done ≡ resume macros here m.frames.items (skip r (lists m.slots)) (after (map marked m.out.items)
+        (within (m.work + length list) (expansion macros here (map marked list ++ first_list (drop r.count (lists m.slots))))))
     put = list_of m r done w
-        ∙ ap (λ x. resume macros here m.frames.items (skip r (lists m.slots.items)) (after (map marked m.out.items) (x >>= (λ list. within (m.work + length list) (expansion macros here (list ++ first_list (drop r.count (lists m.slots.items)))))))) s
-        ∙ ap (λ k. resume macros here m.frames.items (skip r (lists m.slots.items)) (after (map marked m.out.items) (within (m.work + k) (expansion macros here (map marked list ++ first_list (drop r.count (lists m.slots.items))))))) (length-map list marked)
+        ∙ ap (λ x. resume macros here m.frames.items (skip r (lists m.slots)) (after (map marked m.out.items) (x >>= (λ list. within (m.work + length list) (expansion macros here (list ++ first_list (drop r.count (lists m.slots)))))))) s
+        ∙ ap (λ k. resume macros here m.frames.items (skip r (lists m.slots)) (after (map marked m.out.items) (within (m.work + k) (expansion macros here (map marked list ++ first_list (drop r.count (lists m.slots))))))) (length-map list marked)
 
     pub on_too_long : limit < m.work + length list → replacing macros here m r done ≡ Err TooLong
-    on_too_long l = put ∙ ap (λ a. resume macros here m.frames.items (skip r (lists m.slots.items)) (after (map marked m.out.items) a)) (within_false (m.work + length list) (expansion macros here (map marked list ++ first_list (drop r.count (lists m.slots.items)))) l)
-        ∙ resume_err m.frames.items (skip r (lists m.slots.items)) TooLong
+    on_too_long l = put ∙ ap (λ a. resume macros here m.frames.items (skip r (lists m.slots)) (after (map marked m.out.items) a)) (within_false (m.work + length list) (expansion macros here (map marked list ++ first_list (drop r.count (lists m.slots)))) l)
+        ∙ resume_err m.frames.items (skip r (lists m.slots)) TooLong
 
-    pub on_list : (n : Machine) → n.work ≡ m.work + length list → n.work ≤ limit → n.out ≡ m.out → n.frames ≡ m.frames → lists n.slots.items ≡ in_front (map marked list) (drop r.count (lists m.slots.items)) →
+    pub on_list : (n : Machine) → n.work ≡ m.work + length list → n.work ≤ limit → n.out ≡ m.out → n.frames ≡ m.frames → lists n.slots ≡ in_front (map marked list) (drop r.count (lists m.slots)) →
         GoesOn macros here (replacing macros here m r done) (suc (replacing_size m r)) n
     on_list n k l o f i =
-        let ls : List (List Marked) = lists m.slots.items in
+        let ls : List (List Marked) = lists m.slots in
         let left : List (List Marked) = drop r.count ls in
         let whole : List Marked = map marked list ++ first_list left in
-        let first : first_list (lists n.slots.items) ≡ whole = ap first_list i ∙ front_first (map marked list) left in
-        let others : other_lists (lists n.slots.items) ≡ skip r ls = ap other_lists i ∙ front_others (map marked list) left in
+        let first : first_list (lists n.slots) ≡ whole = ap first_list i ∙ front_first (map marked list) left in
+        let others : other_lists (lists n.slots) ≡ skip r ls = ap other_lists i ∙ front_others (map marked list) left in
         let fits : m.work + length list ≤ limit = omega arith in
         let there : meaning macros here n ≡ resume macros here m.frames.items (skip r ls) (after (map marked m.out.items) (expansion macros here whole (m.work + length list))) =
-        ap (λ x. resume macros here n.frames.items (other_lists (lists n.slots.items)) (after (map marked n.out.items) (expansion macros here x n.work))) first
+        ap (λ x. resume macros here n.frames.items (other_lists (lists n.slots)) (after (map marked n.out.items) (expansion macros here x n.work))) first
         ∙ ap (λ x. resume macros here n.frames.items x (after (map marked n.out.items) (expansion macros here whole n.work))) others
         ∙ ap (λ x. resume macros here x.items (skip r ls) (after (map marked n.out.items) (expansion macros here whole n.work))) f
         ∙ ap (λ x. resume macros here m.frames.items (skip r ls) (after (map marked x.items) (expansion macros here whole n.work))) o
         ∙ ap (λ x. resume macros here m.frames.items (skip r ls) (after (map marked m.out.items) (expansion macros here whole x))) k in
         let put_is : replacing macros here m r done ≡ resume macros here m.frames.items (skip r ls) (after (map marked m.out.items) (expansion macros here whole (m.work + length list))) =
         put ∙ ap (λ a. resume macros here m.frames.items (skip r ls) (after (map marked m.out.items) a)) (within_true (m.work + length list) (expansion macros here whole) fits) in
-        let size_n : size n ≡ length (first_list (lists n.slots.items)) + frames_size m.frames.items (skip r ls) + (limit - n.work) =
-        ap (λ x. length (first_list (lists n.slots.items)) + frames_size n.frames.items x + (limit - n.work)) others ∙ ap (λ x. length (first_list (lists n.slots.items)) + frames_size x.items (skip r ls) + (limit - n.work)) f in
-        let long : length (first_list (lists n.slots.items)) ≡ length list + length (first_list left) = ap length first ∙ length-append (map marked list) (first_list left) ∙ ap (λ k. k + length (first_list left)) (length-map list marked) in
+        let size_n : size n ≡ length (first_list (lists n.slots)) + frames_size m.frames.items (skip r ls) + (limit - n.work) =
+        ap (λ x. length (first_list (lists n.slots)) + frames_size n.frames.items x + (limit - n.work)) others ∙ ap (λ x. length (first_list (lists n.slots)) + frames_size x.items (skip r ls) + (limit - n.work)) f in
+        let long : length (first_list (lists n.slots)) ≡ length list + length (first_list left) = ap length first ∙ length-append (map marked list) (first_list left) ∙ ap (λ k. k + length (first_list left)) (length-map list marked) in
         record { same = there ∙ sym put_is; less = omega (arith, size_n, long, k, l); work = l }
 
 -- What an argument of a call is among the lists.
@@ -266,7 +266,7 @@ module _ (macros : Macros) (here : Here) (r q : Replacing) (name : List ℕ) (ls
   weight_front = ap (λ c. weight c.args + length c.rest) call_front ∙ (omega arith)
 
   -- the same call, where these are the arguments before it
-  replacing_front : (m : Machine) (done : List Given) → lists m.slots.items ≡ ls →
+  replacing_front : (m : Machine) (done : List Given) → lists m.slots ≡ ls →
       replacing macros here m r done ≡ resume macros here m.frames.items (skip q (lists_after r.count ls)) (after (map marked m.out.items)
       (finishing macros here (record (call_of q (lists_after r.count ls)) { args = waiting_in r name ls ∷ (call_of q (lists_after r.count ls)).args }) (map argument_of done) m.work))
   replacing_front m done l =
@@ -274,7 +274,7 @@ module _ (macros : Macros) (here : Here) (r q : Replacing) (name : List ℕ) (ls
       ∙ ap (λ x. resume macros here m.frames.items x (after (map marked m.out.items) (finishing macros here (call_of r ls) (map argument_of done) m.work))) skip_front
       ∙ ap (λ x. resume macros here m.frames.items (skip q (lists_after r.count ls)) (after (map marked m.out.items) (finishing macros here x (map argument_of done) m.work))) call_front
 
-  size_front : (m : Machine) → lists m.slots.items ≡ ls → replacing_size m r ≡ suc (length (plain_of r.count ls)) + call_weight q (lists_after r.count ls) + frames_size m.frames.items (skip q (lists_after r.count ls)) + (limit - m.work)
+  size_front : (m : Machine) → lists m.slots ≡ ls → replacing_size m r ≡ suc (length (plain_of r.count ls)) + call_weight q (lists_after r.count ls) + frames_size m.frames.items (skip q (lists_after r.count ls)) + (limit - m.work)
   size_front m l =
       ap (λ x. call_weight r x + frames_size m.frames.items (skip r x) + (limit - m.work)) l
       ∙ ap (λ x. call_weight r ls + frames_size m.frames.items x + (limit - m.work)) skip_front ∙ ap (λ x. x + frames_size m.frames.items (skip q (lists_after r.count ls)) + (limit - m.work)) weight_front
@@ -286,8 +286,8 @@ module _ (macros : Macros) (here : Here) (r q : Replacing) (name : List ℕ) (ls
   not_expanded (suc k) true work e = cc
   not_expanded (suc k) false work e = refl
 
-  pub on_plain : (m n : Machine) (g : Given) (done more : List Given) → lists m.slots.items ≡ ls → wanted_in r.count (stands_free name false r.def.value.body) ≡ false →
-      lists n.slots.items ≡ lists_after r.count ls → n.out ≡ m.out → n.work ≡ m.work → n.frames ≡ m.frames → argument_of g ≡ given_of macros here (waiting_in r name ls) [] → more ≡ done ++ g ∷ [] →
+  pub on_plain : (m n : Machine) (g : Given) (done more : List Given) → lists m.slots ≡ ls → wanted_in r.count (stands_free name false r.def.value.body) ≡ false →
+      lists n.slots ≡ lists_after r.count ls → n.out ≡ m.out → n.work ≡ m.work → n.frames ≡ m.frames → argument_of g ≡ given_of macros here (waiting_in r name ls) [] → more ≡ done ++ g ∷ [] →
       (replacing macros here n q more ≡ replacing macros here m r done) × (replacing_size n q < replacing_size m r)
   on_plain m n g done more l u i o k f a e =
       let after_ls : List (List Marked) = lists_after r.count ls in
@@ -321,7 +321,7 @@ module _ (macros : Macros) (here : Here) (r q : Replacing) (name : List ℕ) (ls
       ap (λ x. finishing macros here (call_of q (lists_after r.count ls)) (done ++ record { name = x; plain = map marked f.plain.items; expanded = list } ∷ []) work) fn
       ∙ finish_trimmed macros here (call_of q (lists_after r.count ls)) done name (map marked f.plain.items) (plain_of r.count ls) list work (ap (λ z. stands_bound name false z.value.body) d ∙ sym k)
 
-  pub on_wanted : (m n : Machine) (f : Frame) (done : List Given) → lists m.slots.items ≡ ls → wanted_in r.count (stands_free name false r.def.value.body) ≡ true →
+  pub on_wanted : (m n : Machine) (f : Frame) (done : List Given) → lists m.slots ≡ ls → wanted_in r.count (stands_free name false r.def.value.body) ≡ true →
       n.slots ≡ m.slots → n.out.items ≡ [] → n.work ≡ m.work → n.frames.items ≡ m.frames.items ++ f ∷ [] → m.work ≤ limit →
       f.out ≡ m.out → f.call ≡ q → f.done.items ≡ done → f.name ≡ name → (kept : Bool) → kept ≡ stands_bound name false r.def.value.body → map marked f.plain.items ≡ cond kept (first_list ls) [] →
       GoesOn macros here (replacing macros here m r done) (suc (replacing_size m r)) n
@@ -331,7 +331,7 @@ module _ (macros : Macros) (here : Here) (r q : Replacing) (name : List ℕ) (ls
       let c : Call = call_of q after_ls in
       let plain : List Marked = plain_of r.count ls in
       let a : Answer = expansion macros here plain m.work in
-      let lists_n : lists n.slots.items ≡ ls = ap (λ x. lists x.items) s ∙ l in
+      let lists_n : lists n.slots ≡ ls = ap lists s ∙ l in
       let one : meaning macros here n ≡ resume macros here m.frames.items (skip f.call after_ls) (returned macros here f after_ls a) =
       ap (λ x. resume macros here n.frames.items (other_lists x) (after (map marked n.out.items) (expansion macros here (first_list x) n.work))) lists_n
       ∙ ap (λ x. resume macros here n.frames.items (other_lists ls) (after (map marked x) (expansion macros here (first_list ls) n.work))) o
@@ -373,14 +373,14 @@ param_none o left behind e p = subst (λ o. ParamAt o left behind) e p
 pub same_argument : (g : Given) (name : List ℕ) (plain : List Marked) → g.name ≡ name → map marked g.plain.items ≡ plain → g.expanded.items ≡ [] → argument_of g ≡ record { name = name; plain = plain; expanded = [] }
 same_argument g name plain a b e = rw (a, b, e) refl
 
-pub on_head_fault : (macros : Macros) (here : Here) (m : Machine) (fault : ExpandFault) → (fault ≡ NoMemory) ⊎ (head_of macros here (first_list (lists m.slots.items)) ≡ Fails fault) → IsFaultOf fault (meaning macros here m)
+pub on_head_fault : (macros : Macros) (here : Here) (m : Machine) (fault : ExpandFault) → (fault ≡ NoMemory) ⊎ (head_of macros here (first_list (lists m.slots)) ≡ Fails fault) → IsFaultOf fault (meaning macros here m)
 on_head_fault macros here m fault (inl e) = inl e
-on_head_fault macros here m fault (inr e) = inr (on_fault macros here m (lists m.slots.items) refl fault e)
+on_head_fault macros here m fault (inr e) = inr (on_fault macros here m (lists m.slots) refl fault e)
 
 pub given_in : (f : Frame) (g : Given) (out : List Hidden) → g.name ≡ f.name → g.plain ≡ f.plain → g.expanded.items ≡ out → argument_of g ≡ argument_in f (map marked out)
 given_in f g out a b e = rw (a, b, e) refl
 
-pub at_start : (macros : Macros) (here : Here) (m : Machine) → m.out.items ≡ [] → m.frames.items ≡ [] → meaning macros here m ≡ expansion macros here (first_list (lists m.slots.items)) m.work
+pub at_start : (macros : Macros) (here : Here) (m : Machine) → m.out.items ≡ [] → m.frames.items ≡ [] → meaning macros here m ≡ expansion macros here (first_list (lists m.slots)) m.work
 at_start macros here m o f =
-    ap (λ x. resume macros here x (other_lists (lists m.slots.items)) (after (map marked m.out.items) (expansion macros here (first_list (lists m.slots.items)) m.work))) f
-    ∙ ap (λ x. after (map marked x) (expansion macros here (first_list (lists m.slots.items)) m.work)) o ∙ after_nothing (expansion macros here (first_list (lists m.slots.items)) m.work)
+    ap (λ x. resume macros here x (other_lists (lists m.slots)) (after (map marked m.out.items) (expansion macros here (first_list (lists m.slots)) m.work))) f
+    ∙ ap (λ x. after (map marked x) (expansion macros here (first_list (lists m.slots)) m.work)) o ∙ after_nothing (expansion macros here (first_list (lists m.slots)) m.work)

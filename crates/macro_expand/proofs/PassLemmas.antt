@@ -102,7 +102,7 @@ front_nil (Err e) = refl
 at_top : (xs ys : List Cell) (o : Cell) → xs ≡ ys ++ o ∷ [] → backwards piece_of xs ≡ piece_of o ∷ backwards piece_of ys
 at_top xs ys o e = ap (backwards piece_of) e ∙ backwards_push piece_of ys o
 
-paste_plain : (p o : Piece) (ps : List Piece) → is_joins o ≡ false → pasted_on p (o ∷ ps) ≡ front (p ∷ []) (pasted_on o ps)
+pub paste_plain : (p o : Piece) (ps : List Piece) → is_joins o ≡ false → pasted_on p (o ∷ ps) ≡ front (p ∷ []) (pasted_on o ps)
 unfolding pasted_on
 paste_plain p o [] h = refl
 paste_plain p o (q ∷ ps) h = cond-false (is_joins o) _ _ h
@@ -184,7 +184,7 @@ abbrev finish : Bool → Names → List Piece → List Marked
 finish space hides qs = map (hiding hides) (first_spaced space (words qs))
 
 module _ (d : DefValue) (name : List ℕ) (space calls : Bool) (hides : Names) (args : List Argument) (body : List Token) (ec : calls ≡ is_some d.params) (eb : body ≡ d.body) where
-  by_put : (r : Result (List Piece) ExpandFault) → put_in name calls args Else body ≡ r → substituted d name space hides args ≡ (r >>= (λ ps. pasted ps >>= (λ qs. Ok (finish space hides qs))))
+  pub by_put : (r : Result (List Piece) ExpandFault) → put_in name calls args Else body ≡ r → substituted d name space hides args ≡ (r >>= (λ ps. pasted ps >>= (λ qs. Ok (finish space hides qs))))
   unfolding substituted
   by_put r e = ap (λ r. r >>= (λ ps. pasted ps >>= (λ qs. Ok (finish space hides qs)))) (ap (λ b. put_in name b args Else d.body) (sym ec) ∙ ap (λ l. put_in name calls args Else l) (sym eb) ∙ e)
 

@@ -54,13 +54,16 @@ front_alone [] = refl
 front_alone (m ∷ ms) = ap (to_first m) (front_alone ms)
 
 -- a token goes from a list to the stack
-pub back_one : (list list2 slots slots2 : List _) (h : Hidden) → list ≡ list2 ++ h ∷ [] → slots2 ≡ slots ++ slot.Word h ∷ [] → in_front (map marked list2) (lists slots2) ≡ in_front (map marked list) (lists slots)
-back_one list list2 slots slots2 h e p =
-    ap (in_front (map marked list2)) (top_word slots2 slots (slot.Word h) (marked h) p refl) ∙ sym (front_push (map marked list2) (marked h) (lists slots)) ∙ ap (λ l. in_front l (lists slots)) (sym (ap (map marked) e ∙ map_push marked list2 h))
+pub word_on : (xs ys : List Slot) (h : Hidden) (j : ℕ) → ys ≡ xs ++ slot.Word h j ∷ [] → lists ys ≡ to_first (marked h) (lists xs)
+word_on xs ys h j e = top_word ys xs (slot.Word h j) (marked h) e refl
 
-pub fresh_one : (left rest : List Token) (slots slots2 : List Slot) (t : Token) (h : Hidden) → left ≡ rest ++ t ∷ [] → marked h ≡ fresh t → slots2 ≡ slots ++ slot.Word h ∷ [] → in_front (map fresh rest) (lists slots2) ≡ in_front (map fresh left) (lists slots)
-fresh_one left rest slots slots2 t h e m p =
-    ap (in_front (map fresh rest)) (top_word slots2 slots (slot.Word h) (fresh t) p (ap Stands m)) ∙ sym (front_push (map fresh rest) (fresh t) (lists slots)) ∙ ap (λ l. in_front l (lists slots)) (sym (ap (map fresh) e ∙ map_push fresh rest t))
+pub back_one : (list list2 : List Hidden) (old new : List (List Marked)) (h : Hidden) → list ≡ list2 ++ h ∷ [] → new ≡ to_first (marked h) old → in_front (map marked list2) new ≡ in_front (map marked list) old
+back_one list list2 old new h e p =
+    ap (in_front (map marked list2)) p ∙ sym (front_push (map marked list2) (marked h) old) ∙ ap (λ l. in_front l old) (sym (ap (map marked) e ∙ map_push marked list2 h))
+
+pub fresh_one : (left rest : List Token) (old new : List (List Marked)) (t : Token) (m : Marked) → left ≡ rest ++ t ∷ [] → m ≡ fresh t → new ≡ to_first m old → in_front (map fresh rest) new ≡ in_front (map fresh left) old
+fresh_one left rest old new t m e f p =
+    ap (in_front (map fresh rest)) (p ∙ ap (λ m. to_first m old) f) ∙ sym (front_push (map fresh rest) (fresh t) old) ∙ ap (λ l. in_front l old) (sym (ap (map fresh) e ∙ map_push fresh rest t))
 
 -- a token goes from the stack to a list
 pub list_one : (ms : List Marked) (m : Marked) (old new : List (List Marked)) (first : List Marked) → old ≡ to_first m new → ms ++ first_list old ≡ first → (ms ++ m ∷ []) ++ first_list new ≡ first
@@ -96,10 +99,10 @@ passed_stands n before m None = refl
 passed_stands n before m (Some o) = ap (λ l. Some (record { count = n + o.count; close = o.close; places = l })) (sym (append_assoc before (Stands m ∷ []) o.places))
 
 module _ (xs : List Slot) (i at : ℕ) (d s : Slot) (a : at ≡ i + 1) (h : i < length xs) (g : s ≡ get_or xs i d) where
-  taken : places (take at xs) ≡ place_of s ∷ places (take i xs)
+  pub taken : places (take at xs) ≡ place_of s ∷ places (take i xs)
   taken = top (take at xs) (take i xs) s (ap (λ n. take n xs) a ∙ take_more xs i d h ∙ ap (λ v. take i xs ++ v ∷ []) (sym g))
 
-  dropped : places (drop i xs) ≡ places (drop at xs) ++ place_of s ∷ []
+  pub dropped : places (drop i xs) ≡ places (drop at xs) ++ place_of s ∷ []
   dropped = ap places (drop-cons xs i d h ∙ (let e : suc i ≡ at = omega arith in ap (λ n. get_or xs i d ∷ drop n xs) e) ∙ ap (λ v. v ∷ drop at xs) (sym g))
 
   set_places : places (set xs i slot.End) ≡ places (drop at xs) ++ Ends ∷ places (take i xs)
@@ -108,7 +111,7 @@ module _ (xs : List Slot) (i at : ℕ) (d s : Slot) (a : at ≡ i + 1) (h : i < 
       ap places (set_split xs i slot.End h ∙ ap (λ n. take i xs ++ slot.End ∷ drop n xs) e) ∙ backwards-append place_of (take i xs) (slot.End ∷ drop at xs) ∙ append_assoc (places (drop at xs)) (Ends ∷ []) (places (take i xs))
 
   -- what a part says of a place
-  word_there : (p : Place) (kind : Part) → place_part p ≡ Some kind → (m : Marked) × (p ≡ Stands m) × (part_of m.token ≡ kind)
+  pub word_there : (p : Place) (kind : Part) → place_part p ≡ Some kind → (m : Marked) × (p ≡ Stands m) × (part_of m.token ≡ kind)
   word_there (Stands m) kind e = (m, refl, some_same (part_of m.token) kind e)
     where
       some_same : (a b : Part) → Some a ≡ Some b → a ≡ b
@@ -116,7 +119,7 @@ module _ (xs : List Slot) (i at : ℕ) (d s : Slot) (a : at ≡ i + 1) (h : i < 
   word_there Ends kind e = cc
 
   module _ (n commas depth : ℕ) (whole : Option Opened) (v : passed n (places (drop at xs)) (opened (places (take at xs)) commas depth) ≡ whole) where
-    start : (p : Place) → place_of s ≡ p → passed n (places (drop at xs)) (opened (p ∷ places (take i xs)) commas depth) ≡ whole
+    pub start : (p : Place) → place_of s ≡ p → passed n (places (drop at xs)) (opened (p ∷ places (take i xs)) commas depth) ≡ whole
     start p e = ap (λ l. passed n (places (drop at xs)) (opened l commas depth)) (sym (taken ∙ ap (λ q. q ∷ places (take i xs)) e)) ∙ v
 
     pub cut_none : place_part (place_of s) ≡ None → whole ≡ None

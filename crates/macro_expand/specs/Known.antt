@@ -7,8 +7,10 @@ use Rattle.std.specs.declared.rc.Rc.{Rc}
 use Rattle.macro_table.specs.Definitions.{DefValue}
 use Rattle.macro_table.specs.Tables.{TableOf}
 use Rattle.macro_expand.specs.declared.known.Known.{Known}
+use Rattle.macro_expand.specs.declared.made.Made.{Made}
+use Rattle.macro_expand.specs.Marked.{with_name}
 use Rattle.macro_expand.specs.Macros.{macros_of}
-use Rattle.macro_expand.specs.States.{name_text}
+use Rattle.macro_expand.specs.States.{name_text, hidden_names}
 
 -- a shared definition
 abbrev pub def_value : {X : Type 0} → Rc DefValue X → DefValue
@@ -26,6 +28,10 @@ known_value known = (name_text known.name, known_def known)
 abbrev pub IsMeaning : Option Known → List ℕ → Option (Option DefValue) → Type 0
 IsMeaning None name said = said ≡ None
 IsMeaning (Some known) name said = (said ≡ Some (known_def known)) × (name_text known.name ≡ name)
+
+-- the set that was made has the names of the set that it was made of, and one name more
+abbrev pub IsMade : Made → Type 0
+IsMade made = hidden_names made.with ≡ with_name (name_text made.name) (hidden_names made.from)
 
 -- what is remembered is what the table says
 abbrev pub AreKnown : {A : Type 0} → TableOf ℕ → List (Vec ℕ A × Known) → Type 0

@@ -20,15 +20,15 @@ put_by c = substituted c.def c.name c.space c.hides (as_written c.args)
 
 -- what the whole text gives, seen from here
 abbrev pub level_meaning : Macros → Here → Level → Answer
-level_meaning macros here l = after (map marked l.out.items) (single_level macros here (first_list (lists l.slots.items)) l.work)
+level_meaning macros here l = after (map marked l.out.items) (single_level macros here (first_list (lists l.slots)) l.work)
 
 -- the same where a name before the lists is being replaced
 abbrev pub level_replacing : Macros → Here → Level → Replacing → Answer
-level_replacing macros here l r = after (map marked l.out.items) (once_from (single_level macros here) (Replaced (call_of r (lists l.slots.items))) l.work)
+level_replacing macros here l r = after (map marked l.out.items) (once_from (single_level macros here) (Replaced (call_of r (lists l.slots))) l.work)
 
 -- how many tokens are left
 abbrev pub level_size : Level → ℕ
-level_size l = length (first_list (lists l.slots.items))
+level_size l = length (first_list (lists l.slots))
 
 -- the code went on to a place that is below a bound and stands for this
 pub record LevelGoesOn (macros : Macros) (here : Here) (answer : Answer) (bound : ℕ) (l : Level) : Type 0 where

@@ -49,13 +49,13 @@ resume macros here (f ∷ more) ls answer = returned macros here f (outer more l
 -- what the whole text expands to, seen from here
 abbrev pub meaning : Macros → Here → Machine → Answer
 meaning macros here m =
-    let ls = lists m.slots.items in
+    let ls = lists m.slots in
     resume macros here m.frames.items (other_lists ls) (after (map marked m.out.items) (expansion macros here (first_list ls) m.work))
 
 -- the same where a name before the lists is being replaced, and these of its arguments are there
 abbrev pub replacing : Macros → Here → Machine → Replacing → List Given → Answer
 replacing macros here m r done =
-    let ls = lists m.slots.items in
+    let ls = lists m.slots in
     resume macros here m.frames.items (skip r ls) (after (map marked m.out.items) (finishing macros here (call_of r ls) (map argument_of done) m.work))
 
 -- how much a call has before it
@@ -69,11 +69,11 @@ frames_size (f ∷ more) ls = suc (call_weight f.call (outer more ls)) + frames_
 
 -- how many steps are left, at most
 abbrev pub size : Machine → ℕ
-size m = let ls = lists m.slots.items in length (first_list ls) + frames_size m.frames.items (other_lists ls) + (limit - m.work)
+size m = let ls = lists m.slots in length (first_list ls) + frames_size m.frames.items (other_lists ls) + (limit - m.work)
 
 -- the same where a name before the lists is being replaced
 abbrev pub replacing_size : Machine → Replacing → ℕ
-replacing_size m r = let ls = lists m.slots.items in call_weight r ls + frames_size m.frames.items (skip r ls) + (limit - m.work)
+replacing_size m r = let ls = lists m.slots in call_weight r ls + frames_size m.frames.items (skip r ls) + (limit - m.work)
 
 -- the machine went on to one that is below a bound and stands for this
 pub record GoesOn (macros : Macros) (here : Here) (answer : Answer) (bound : ℕ) (m : Machine) : Type 0 where

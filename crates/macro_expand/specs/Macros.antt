@@ -17,7 +17,7 @@ sound_def (Ok d) = Some d
 sound_def (Err fault) = None
 
 -- what each name stands for under a table
-abbrev pub macros_of : TableOf ℕ → Macros
+abbrev pub macros_of : {P : Type 0} → TableOf P → Macros
 macros_of table name = option_map (λ entry. sound_def (def_of_text entry.text)) (finite.get table name)
 
 -- the names of a parameter list, where there is one

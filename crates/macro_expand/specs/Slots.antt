@@ -1,9 +1,10 @@
 -- The lists of tokens that wait, one behind another, as the code's stack holds them.
-use Rattle.std.specs.Prelude.{ℕ, ◌+◌, ◌-◌, ◌≡◌, if◌then◌else◌, List, [], ◌∷◌, ◌++◌, Option, Some, None}
+use Rattle.std.specs.Prelude.{ℕ, zero, suc, ◌+◌, ◌-◌, ◌≡◌, ◌≤◌, ◌⊎◌, Bool, true, false, map, if◌then◌else◌, List, [], ◌∷◌, ◌++◌, Option, Some, None}
 use Rattle.macro_expand.specs.declared.slots.Slot.{Slot}
 use Rattle.macro_expand.specs.declared.slots.Slot.TheVariants as slot
 use Rattle.macro_expand.specs.declared.slots.Cut.{Cut}
 use Rattle.macro_expand.specs.declared.part.Part.{Part}
+use Rattle.macro_expand.specs.declared.part.Part.TheVariants.{Opens}
 use Rattle.macro_expand.specs.Marked.{Names, no_names, Marked, part_of}
 use Rattle.macro_expand.specs.Calls.{to_first, depth_behind, ends_call, parts, first_list, other_lists}
 use Rattle.macro_expand.specs.States.{backwards, marked, hidden_names}
@@ -15,7 +16,7 @@ pub data Place : Type 0 where
 
 -- what a slot of the code holds
 abbrev pub place_of : Slot → Place
-place_of (slot.Word h) = Stands (marked h)
+place_of (slot.Word h j) = Stands (marked h)
 place_of slot.End = Ends
 
 -- the lists, of which each ends at a mark
@@ -91,3 +92,48 @@ passed count before (Some o) = Some (record { count = count + o.count; close = o
 abbrev pub IsOpened : Option Cut → List Slot → Option Opened → Type 0
 IsOpened None new o = o ≡ None
 IsOpened (Some cut) new o = o ≡ Some (record { count = cut.count; close = hidden_names cut.hides; places = places new })
+
+-- the stack from its top down
+abbrev pub turned : List Slot → List Slot
+turned slots = backwards (λ s. s) slots
+
+-- how many slots behind this one are said to go up to the parenthesis that closes it; 0 where nothing is said
+abbrev pub leap : Slot → ℕ
+leap (slot.Word h j) = j
+leap slot.End = 0
+
+-- whether none is left
+abbrev pub is_none_left : ℕ → Bool
+is_none_left zero = true
+is_none_left (suc k) = false
+
+-- whether the parenthesis that closes this depth is the last of so many places
+abbrev pub closes_at : ℕ → List Place → ℕ → Bool
+closes_at zero ps depth = false
+closes_at (suc k) [] depth = false
+closes_at (suc k) (Ends ∷ ps) depth = false
+closes_at (suc k) (Stands m ∷ ps) depth =
+    if ends_call (part_of m.token) depth then is_none_left k else closes_at k ps (depth_behind (part_of m.token) depth)
+
+-- there are so many slots, and what is said in them is of these slots alone
+abbrev pub StaysWithin : ℕ → List Slot → Type 0
+StaysWithin zero ss = Unit {0}
+StaysWithin (suc k) [] = ⊥
+StaysWithin (suc k) (s ∷ ss) = (leap s ≤ k) × StaysWithin k ss
+
+-- what a slot says of those behind it is nothing, or that it is a parenthesis which is closed there
+abbrev pub IsRight : Slot → List Slot → Type 0
+IsRight s ss = (leap s ≡ 0) ⊎ ((place_part (place_of s) ≡ Some Opens) × (closes_at (leap s) (map place_of ss) 0 ≡ true) × StaysWithin (leap s) ss)
+
+-- what the slots say from the top down is right
+abbrev pub AreRight : List Slot → Type 0
+AreRight [] = Unit {0}
+AreRight (s ∷ ss) = IsRight s ss × AreRight ss
+
+-- what the slots of a stack say is right
+abbrev pub AllRight : List Slot → Type 0
+AllRight slots = AreRight (turned slots)
+
+-- so many slots go up to the parenthesis that closes one before them, or nothing is said
+abbrev pub IsClosing : ℕ → List Slot → Type 0
+IsClosing n ss = (n ≡ 0) ⊎ ((closes_at n (map place_of ss) 0 ≡ true) × StaysWithin n ss)

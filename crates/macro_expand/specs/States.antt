@@ -27,6 +27,13 @@ abbrev pub covers_names : List (List ℕ) → List (List ℕ) → Bool
 covers_names names [] = true
 covers_names names (x ∷ xs) = members names x && covers_names names xs
 
+-- whether two lists have the same names in the same order
+abbrev pub same_names : List (List ℕ) → List (List ℕ) → Bool
+same_names [] [] = true
+same_names [] (y ∷ ys) = false
+same_names (x ∷ xs) [] = false
+same_names (x ∷ xs) (y ∷ ys) = bytes_eq x y && same_names xs ys
+
 -- those of the second list that are not in the first
 abbrev pub missing_names : List (List ℕ) → List (List ℕ) → List (List ℕ)
 missing_names names [] = []
@@ -99,6 +106,16 @@ is_bound name behind_operator (t ∷ ts) = is_named name t && (behind_operator |
 unfoldable pub stands_bound : List ℕ → Bool → List Token → Bool
 stands_bound name behind_operator [] = false
 stands_bound name behind_operator (t ∷ ts) = is_bound name behind_operator (t ∷ ts) || stands_bound name (is_paste t || is_hash t) ts
+
+-- whether `##` is among the tokens
+abbrev pub has_paste : List Token → Bool
+has_paste [] = false
+has_paste (t ∷ ts) = is_paste t || has_paste ts
+
+-- whether there is no argument
+abbrev pub no_arguments : List Argument → Bool
+no_arguments [] = true
+no_arguments (a ∷ more) = false
 
 -- the next parameter of those that are left, and those behind it
 abbrev pub ParamAt : Option (List ℕ) → List (List ℕ) → List (List ℕ) → Type 0

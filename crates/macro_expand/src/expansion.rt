@@ -10,7 +10,7 @@ use crate::here::Here;
 use crate::hidden::Hidden;
 use crate::known::Definitions;
 use crate::machine::run;
-use crate::slots::fresh_list;
+use crate::stack::fresh_list;
 use crate::token::is_lone_quote;
 use macro_table::Table;
 use pp_tokens::{Token, Tokens};
@@ -32,7 +32,7 @@ pub fn has_lone_quote(tokens: &[Token]) -> bool
 pub fn without_hides(alloc: Global, tokens: Vec<Hidden>) -> Result<Tokens, AllocError>
     ensures { IfOk result (λ all. all ≡ map (λ h. h.token) tokens.items) }
 {
-    let mut all = Vec::new(alloc);
+    let mut all = Vec::with_capacity(alloc, tokens.len())?;
     for hidden in tokens {
         all.push(hidden.token)?;
     }

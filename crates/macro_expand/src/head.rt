@@ -15,7 +15,8 @@ use crate::hide::{HideSet, Name, hides, intersection, with_name};
 use crate::known::{Definitions, Known};
 use crate::params::{fits_count, named_count, param_count};
 use crate::part::Part;
-use crate::slots::{Cut, Slot, cut_arguments, next_part, next_token, opens_next};
+use crate::slots::Cut;
+use crate::stack::{Stack, cut_arguments, next_part, next_token, opens_next, slot_count};
 use crate::token::is_identifier;
 use mac_base::Bytes;
 use macro_table::Def;
@@ -111,9 +112,9 @@ pub fn take_head(
     alloc: Global,
     here: &Here,
     definitions: &mut Definitions,
-    slots: &mut Vec<Slot>,
+    slots: &mut Stack,
 ) -> Result<NextHead, ExpandFault>
-    ensures head { IsHead result (lists slots.old.items) (lists slots.new.items) (head_of (macros_of definitions.old) here.now (first_list (lists slots.old.items))) }
+    ensures head { IsHead result (lists slots.old) (lists slots.new) (head_of (macros_of definitions.old) here.now (first_list (lists slots.old))) }
     ensures kept { definitions.new ≡ definitions.old }
 {
     let Some(hidden) = next_token(slots) else {
@@ -132,9 +133,9 @@ fn seen_head(
     here: &Here,
     definitions: &mut Definitions,
     hidden: Hidden,
-    slots: &mut Vec<Slot>,
+    slots: &mut Stack,
 ) -> Result<NextHead, ExpandFault>
-    ensures head { IsHead result (lists slots.old.items) (lists slots.new.items) (seen_head_of (macros_of definitions.old) here.now (marked hidden) (first_list (lists slots.old.items))) }
+    ensures head { IsHead result (lists slots.old) (lists slots.new) (seen_head_of (macros_of definitions.old) here.now (marked hidden) (first_list (lists slots.old))) }
     ensures kept { definitions.new ≡ definitions.old }
 {
     let name = hidden.token.text.as_slice();
@@ -149,29 +150,32 @@ fn seen_head(
     let Some(known) = definitions.look_up(alloc, name)? else {
         return Ok(NextHead::Stays(hidden));
     };
-    let Known { name, def } = known;
+    let Known { name, def, number } = known;
     let Some(def) = def else {
         return Err(ExpandFault::BadDefinition {
             name: hidden.token.text,
         });
     };
-    let head = macro_head(alloc, &name, def, hidden, slots)?;
+    let head = macro_head(alloc, definitions, number, &name, def, hidden, slots)?;
     Ok(head)
 }
 
 /// The head of a list that begins with the name of a macro.
 fn macro_head(
     alloc: Global,
+    definitions: &mut Definitions,
+    number: usize,
     name: &Name,
     def: Rc<Def>,
     hidden: Hidden,
-    slots: &mut Vec<Slot>,
+    slots: &mut Stack,
 ) -> Result<NextHead, ExpandFault>
     requires { name_text name.now ≡ hidden.token.text }
-    ensures { IsHead result (lists slots.old.items) (lists slots.new.items) (macro_head_of def.value def.value.params (marked hidden) (first_list (lists slots.old.items))) }
+    ensures head { IsHead result (lists slots.old) (lists slots.new) (macro_head_of def.value def.value.params (marked hidden) (first_list (lists slots.old))) }
+    ensures kept { definitions.new ≡ definitions.old }
 {
     if def.params.is_none() {
-        let hides = with_name(alloc, name, &hidden.hides)?;
+        let hides = definitions.hide_name(alloc, number, name, &hidden.hides)?;
         let next = param_count(&def);
         return Ok(NextHead::Replaced(Replacing {
             def,
@@ -182,37 +186,37 @@ fn macro_head(
             count: 0,
         }));
     }
-    if !opens_next(slots.as_slice()) {
+    if !opens_next(slots) {
         return Ok(NextHead::Stays(hidden));
     }
     let _ = next_token(slots);
-    let head = call_head(alloc, name, def, hidden, slots)?;
+    let head = call_head(alloc, definitions, number, name, def, hidden, slots)?;
     Ok(head)
 }
 
 /// Whether the next token of the first list is `)`, and the macro has no named parameter.
-fn is_bare(def: &Def, slots: &[Slot]) -> bool
+fn is_bare(def: &Def, slots: &Stack) -> bool
     ensures { result ≡ (no_named (named_params def.now) && closes (first_part (first_list (lists slots.now)))) }
 {
     named_count(def) == 0 && matches!(next_part(slots), Some(Part::Closes))
 }
 
 /// How many commas can part the arguments of a call of the macro.
-fn commas_in(def: &Def, slots: &[Slot]) -> usize
+fn commas_in(def: &Def, slots: &Stack) -> usize
     ensures { result ≡ (if def.now.variadic then length (named_params def.now) else length slots.now) }
 {
     if def.variadic {
         named_count(def)
     } else {
-        slots.len()
+        slot_count(slots)
     }
 }
 
 /// Cuts the arguments of a call of the macro out of the first list.
-fn open_call(def: &Def, slots: &mut Vec<Slot>) -> Result<Option<Cut>, AllocError>
-    ensures { IfOk result (λ cut. IsCall cut (lists slots.old.items) (lists slots.new.items) def.now) }
+fn open_call(def: &Def, slots: &mut Stack) -> Result<Option<Cut>, AllocError>
+    ensures { IfOk result (λ cut. IsCall cut (lists slots.old) (lists slots.new) def.now) }
 {
-    if is_bare(def, slots.as_slice()) {
+    if is_bare(def, slots) {
         let Some(close) = next_token(slots) else {
             return Ok(None);
         };
@@ -221,7 +225,7 @@ fn open_call(def: &Def, slots: &mut Vec<Slot>) -> Result<Option<Cut>, AllocError
             hides: close.hides,
         }));
     }
-    let commas = commas_in(def, slots.as_slice());
+    let commas = commas_in(def, slots);
     let cut = cut_arguments(slots, commas)?;
     Ok(cut)
 }
@@ -229,27 +233,33 @@ fn open_call(def: &Def, slots: &mut Vec<Slot>) -> Result<Option<Cut>, AllocError
 /// What the replacement of a call hides.
 fn call_hides(
     alloc: Global,
+    definitions: &mut Definitions,
+    number: usize,
     name: &Name,
     hidden: &HideSet,
     close: &HideSet,
 ) -> Result<HideSet, AllocError>
-    ensures { IfOk result (λ set. hidden_names set ≡ with_name_of (name_text name.now) (intersection_of (hidden_names hidden.now) (hidden_names close.now))) }
+    ensures set { IfOk result (λ set. hidden_names set ≡ with_name_of (name_text name.now) (intersection_of (hidden_names hidden.now) (hidden_names close.now))) }
+    ensures kept { definitions.new ≡ definitions.old }
 {
     let both = intersection(alloc, hidden, close)?;
-    let all = with_name(alloc, name, &both)?;
+    let all = definitions.hide_name(alloc, number, name, &both)?;
     Ok(all)
 }
 
 /// The head of a list that begins with a call.
 fn call_head(
     alloc: Global,
+    definitions: &mut Definitions,
+    number: usize,
     name: &Name,
     def: Rc<Def>,
     hidden: Hidden,
-    slots: &mut Vec<Slot>,
+    slots: &mut Stack,
 ) -> Result<NextHead, ExpandFault>
     requires { name_text name.now ≡ hidden.token.text }
-    ensures { IsHead result (lists slots.old.items) (lists slots.new.items) (call_head_of def.value (marked hidden) (closed (first_list (lists slots.old.items)) 0)) }
+    ensures head { IsHead result (lists slots.old) (lists slots.new) (call_head_of def.value (marked hidden) (closed (first_list (lists slots.old)) 0)) }
+    ensures kept { definitions.new ≡ definitions.old }
 {
     let Some(cut) = open_call(&def, slots)? else {
         return Err(ExpandFault::OpenCall {
@@ -262,7 +272,7 @@ fn call_head(
             got: cut.count as u64,
         });
     }
-    let hides = call_hides(alloc, name, &hidden.hides, &cut.hides)?;
+    let hides = call_hides(alloc, definitions, number, name, &hidden.hides, &cut.hides)?;
     Ok(NextHead::Replaced(Replacing {
         def,
         name: hidden.token.text,

@@ -1,5 +1,5 @@
 // Tokens with their hide sets.
-ghost use Rattle.std.specs.Prelude.{◌≡◌, IfOk};
+ghost use Rattle.std.specs.Prelude.{◌≡◌, IfOk, if◌then◌else◌};
 ghost use Rattle.macro_expand.specs.Marked.{fresh, spaced, hiding};
 ghost use Rattle.macro_expand.specs.States.{marked, hidden_names};
 
@@ -32,6 +32,16 @@ pub fn fresh_copy(token: &Token) -> Result<Hidden, NoMemory>
     Ok(fresh_hidden(token.copy()?))
 }
 
+/// A copy of a token, which hides these names.
+pub fn hiding_copy(token: &Token, hides: &HideSet) -> Result<Hidden, NoMemory>
+    ensures { IfOk result (λ h. marked h ≡ hiding (hidden_names hides.now) (fresh token.now)) }
+{
+    Ok(Hidden {
+        token: token.copy()?,
+        hides: same_hides(hides)?,
+    })
+}
+
 /// A copy of a token with its hide set.
 pub fn copy_hidden(hidden: &Hidden) -> Result<Hidden, NoMemory>
     ensures { IfOk result (λ h. marked h ≡ marked hidden.now) }
@@ -55,6 +65,17 @@ pub fn put_mark(space: bool, hidden: Hidden) -> Hidden
     Hidden {
         token: Token { kind, text, space },
         hides,
+    }
+}
+
+/// The token, with this mark where it is the first.
+pub fn mark_first(first: bool, space: bool, hidden: Hidden) -> Hidden
+    ensures { marked result ≡ (if first then spaced space (marked hidden) else marked hidden) }
+{
+    if first {
+        put_mark(space, hidden)
+    } else {
+        hidden
     }
 }
 

@@ -1,7 +1,7 @@
 // Hide sets: the names that are not replaced in a token (C17 6.10.3.4).
-ghost use Rattle.std.specs.Prelude.{◌≡◌, IfOk, Some, None, map, ◌++◌, ◌∷◌};
+ghost use Rattle.std.specs.Prelude.{◌≡◌, IfOk, Some, None, map, ◌++◌, ◌∷◌, true};
 ghost use Rattle.macro_expand.specs.Marked.{no_names, with_name, union, intersection};
-ghost use Rattle.macro_expand.specs.States.{members, name_text, hidden_names, covers_names, missing_names, common_names};
+ghost use Rattle.macro_expand.specs.States.{members, name_text, hidden_names, covers_names, same_names, missing_names, common_names};
 
 use mac_base::Bytes;
 use smallvec::SmallVec;
@@ -146,6 +146,30 @@ fn covers(names: &[Name], others: &[Name]) -> bool
         }
     }
     true
+}
+
+/// Whether the lists have the same names in the same order.
+fn same_names(names: &[Name], others: &[Name]) -> bool
+    ensures { result ≡ same_names (map name_text names.now) (map name_text others.now) }
+{
+    let mut left = others;
+    for name in names {
+        let Some((other, rest)) = left.split_first() else {
+            return false;
+        };
+        if name.as_slice() != other.as_slice() {
+            return false;
+        }
+        left = rest;
+    }
+    left.is_empty()
+}
+
+/// Whether two sets are kept as the same list. Where they are, they are the same set.
+pub fn is_listed_alike(a: &HideSet, b: &HideSet) -> bool
+    ensures { result ≡ true → hidden_names a.now ≡ hidden_names b.now }
+{
+    same_names(listed(a), listed(b))
 }
 
 /// The names, and behind them those of the others that are not among them.

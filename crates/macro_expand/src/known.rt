@@ -6,22 +6,27 @@ ghost use Rattle.std.specs.BTreeMap.{insert_entry};
 ghost use Rattle.std.specs.Ordering.{is_eq, nat_cmp};
 ghost use Rattle.std.specs.Cmp.Lexicographic.{slice_cmp};
 ghost use Rattle.macro_table.specs.Texts.{def_of_text};
+ghost use Rattle.macro_expand.specs.Marked.{with_name};
+ghost use Rattle.macro_expand.specs.States.{name_text, hidden_names};
 ghost use Rattle.macro_expand.specs.Macros.{macros_of, sound_def};
 ghost use Rattle.macro_expand.specs.Known.{known_def, known_value, def_value, IsMeaning};
 
-use crate::hide::Name;
+use crate::hide::{HideSet, Name};
+use crate::made::{Made, add_name, hide_name};
 use mac_base::{Bytes, NoMemory};
 use macro_table::{Def, Table, TextFault, def_of_text};
-use std::alloc::Global;
+use std::alloc::{AllocError, Global};
 use std::collections::BTreeMap;
 use std::marker::Model;
 use std::rc::Rc;
 
-/// A name with a text in the table: its definition, or none where the text is no definition.
+/// A name with a text in the table: its definition, or none where the text is no definition, and the number of the hide
+/// set that is remembered for it.
 #[derive(Drop)]
 pub struct Known {
     pub name: Name,
     pub def: Option<Rc<Def>>,
+    pub number: usize,
 }
 
 /// The same name and definition.
@@ -29,11 +34,17 @@ fn same_known(known: &Known) -> Result<Known, NoMemory>
     ensures { IfOk result (λ same. known_value same ≡ known_value known.now) }
 {
     let name = known.name.same()?;
+    let number = known.number;
     match &known.def {
-        None => Ok(Known { name, def: None }),
+        None => Ok(Known {
+            name,
+            def: None,
+            number,
+        }),
         Some(def) => Ok(Known {
             name,
             def: Some(def.clone()?),
+            number,
         }),
     }
 }
@@ -68,18 +79,20 @@ fn remember(known: &mut BTreeMap<Vec<u8>, Known>, name: Vec<u8>, one: Known) -> 
     }
 }
 
-/// A table, and the definitions that were read from it. Contracts see the table.
+/// A table, the definitions that were read from it, and the hide sets that were last made for their names. Contracts see
+/// the table.
 #[derive(Drop)]
 pub struct Definitions<'a> {
     table: &'a Table,
     known: BTreeMap<Vec<u8>, Known>,
+    sets: Vec<Made>,
 }
 
 impl<'a> Model for Definitions<'a> {
-    ghost use Rattle.std.specs.Prelude.{ℕ};
+    ghost use Rattle.std.specs.Prelude.{ℕ, All};
     ghost use Rattle.macro_table.specs.Tables.{TableOf};
     ghost use Rattle.macro_table.specs.Codes.{coded_table};
-    ghost use Rattle.macro_expand.specs.Known.{AreKnown};
+    ghost use Rattle.macro_expand.specs.Known.{AreKnown, IsMade};
 
     ghost Value = { TableOf ℕ };
 
@@ -87,7 +100,7 @@ impl<'a> Model for Definitions<'a> {
 
     ghost view = { λ d. d.table.now };
 
-    ghost invariant = { λ d. AreKnown d.table.now d.known.entries };
+    ghost invariant = { λ d. AreKnown d.table.now d.known.entries × All IsMade d.sets.items };
 }
 
 impl<'a> Definitions<'a> {
@@ -98,6 +111,7 @@ impl<'a> Definitions<'a> {
         Definitions {
             table,
             known: BTreeMap::new(alloc),
+            sets: Vec::new(alloc),
         }
     }
 
@@ -115,9 +129,27 @@ impl<'a> Definitions<'a> {
         };
         let def = read_def(alloc, entry.text.as_slice())?;
         let own = Name::new(alloc, Bytes::from_vec(Vec::from_slice(alloc, name)?))?;
-        let known = Known { name: own, def };
+        let number = add_name(alloc, &mut self.sets, &own)?;
+        let known = Known {
+            name: own,
+            def,
+            number,
+        };
         let same = same_known(&known)?;
         remember(&mut self.known, Vec::from_slice(alloc, name)?, known)?;
         Ok(Some(same))
+    }
+    /// The set with the name of this number more.
+    pub fn hide_name(
+        &mut self,
+        alloc: Global,
+        number: usize,
+        name: &Name,
+        set: &HideSet,
+    ) -> Result<HideSet, AllocError>
+        ensures set { IfOk result (λ more. hidden_names more ≡ with_name (name_text name.now) (hidden_names set.now)) }
+        ensures kept { self.new ≡ self.old }
+    {
+        hide_name(alloc, &mut self.sets, number, name, set)
     }
 }

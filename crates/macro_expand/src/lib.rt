@@ -13,12 +13,15 @@ mod hide;
 mod known;
 mod laws;
 mod machine;
+mod made;
 mod once;
 mod one_token;
 mod params;
 mod part;
 mod pasting;
+mod plain;
 mod slots;
+mod stack;
 mod strings;
 mod substitute;
 #[cfg(test)]

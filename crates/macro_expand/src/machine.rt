@@ -15,7 +15,7 @@ use crate::here::Here;
 use crate::hidden::Hidden;
 use crate::known::Definitions;
 use crate::params::{param_at, stands_bound, stands_free};
-use crate::slots::{Slot, copy_list, drop_lists, put_back, take_list};
+use crate::stack::{Stack, copy_list, drop_lists, put_back, take_list};
 use crate::substitute::substitute;
 use mac_base::{Bytes, NoMemory};
 use pp_tokens::Token;
@@ -39,7 +39,7 @@ pub struct Frame {
 /// The lists that wait, what is put out, the work so far, and the calls that wait, the innermost last.
 #[derive(Drop)]
 pub struct Machine {
-    pub slots: Vec<Slot>,
+    pub slots: Stack,
     pub out: Vec<Hidden>,
     pub work: u64,
     pub frames: Vec<Frame>,
@@ -89,10 +89,10 @@ fn is_wanted(count: usize, name: &[u8], body: &[Token]) -> bool
 pub fn take_argument(
     alloc: Global,
     count: usize,
-    slots: &mut Vec<Slot>,
+    slots: &mut Stack,
 ) -> Result<Vec<Hidden>, AllocError>
-    ensures list { IfOk result (λ list. map marked list.items ≡ plain_of count (lists slots.old.items)) }
-    ensures others { IfOk result (λ _. lists slots.new.items ≡ lists_after count (lists slots.old.items)) }
+    ensures list { IfOk result (λ list. map marked list.items ≡ plain_of count (lists slots.old)) }
+    ensures others { IfOk result (λ _. lists slots.new ≡ lists_after count (lists slots.old)) }
 {
     if count == 0 {
         return Ok(Vec::new(alloc));
@@ -102,7 +102,7 @@ pub fn take_argument(
 }
 
 /// A copy of the first list, where its tokens are needed as written. Else none.
-fn plain_copy(alloc: Global, kept: bool, slots: &[Slot]) -> Result<Vec<Hidden>, NoMemory>
+fn plain_copy(alloc: Global, kept: bool, slots: &Stack) -> Result<Vec<Hidden>, NoMemory>
     ensures { IfOk result (λ list. map marked list.items ≡ (if kept then first_list (lists slots.now) else [])) }
 {
     if !kept {
@@ -129,7 +129,7 @@ fn advance(
         call.count = count.saturating_sub(1);
         if is_wanted(count, name.as_slice(), call.def.body.as_slice()) {
             let kept = stands_bound(name.as_slice(), call.def.body.as_slice());
-            let plain = plain_copy(alloc, kept, machine.slots.as_slice())?;
+            let plain = plain_copy(alloc, kept, &machine.slots)?;
             let out = mem::replace(&mut machine.out, Vec::new(alloc));
             machine.frames.push(Frame {
                 out,
@@ -200,9 +200,9 @@ pub fn run(
     alloc: Global,
     here: &Here,
     definitions: &mut Definitions,
-    slots: Vec<Slot>,
+    slots: Stack,
 ) -> Result<Vec<Hidden>, ExpandFault>
-    ensures { AnswersList result (expansion (macros_of definitions.old) here.now (first_list (lists slots.items)) 0) }
+    ensures { AnswersList result (expansion (macros_of definitions.old) here.now (first_list (lists slots)) 0) }
 {
     let mut machine = Machine {
         slots,

@@ -22,7 +22,7 @@ use crate::hidden::{Hidden, copy_hidden};
 use crate::known::Definitions;
 use crate::machine::{LIMIT, take_argument};
 use crate::params::param_at;
-use crate::slots::{Slot, drop_lists, fresh_list};
+use crate::stack::{Stack, drop_lists, fresh_list};
 use crate::substitute::substitute;
 use mac_base::NoMemory;
 use macro_table::Table;
@@ -32,7 +32,7 @@ use std::alloc::Global;
 /// The lists that wait, what is put out, and the work so far.
 #[derive(Drop)]
 pub struct Level {
-    pub slots: Vec<Slot>,
+    pub slots: Stack,
     pub out: Vec<Hidden>,
     pub work: u64,
 }
@@ -51,11 +51,11 @@ fn copy_all(alloc: Global, tokens: &[Hidden]) -> Result<Vec<Hidden>, NoMemory>
 /// The arguments of a call, which go in as written. What follows the call is the first list then.
 fn written_arguments(
     alloc: Global,
-    slots: &mut Vec<Slot>,
+    slots: &mut Stack,
     call: &Replacing,
 ) -> Result<Vec<Given>, NoMemory>
-    ensures args { IfOk result (λ done. map argument_of done.items ≡ as_written (Call.args (call_of call.now (lists slots.old.items)))) }
-    ensures rest { OnOk result (first_list (lists slots.new.items) ≡ Call.rest (call_of call.now (lists slots.old.items))) }
+    ensures args { IfOk result (λ done. map argument_of done.items ≡ as_written (Call.args (call_of call.now (lists slots.old)))) }
+    ensures rest { OnOk result (first_list (lists slots.new) ≡ Call.rest (call_of call.now (lists slots.old))) }
 {
     let mut done = Vec::new(alloc);
     let mut next = call.next;
@@ -76,13 +76,9 @@ fn written_arguments(
 }
 
 /// The list that replaces a name. What follows the name and its arguments is the first list then.
-fn put_list(
-    alloc: Global,
-    slots: &mut Vec<Slot>,
-    call: &Replacing,
-) -> Result<Vec<Hidden>, ExpandFault>
-    ensures list { Answers (λ list. map marked list.items) result (put_by (call_of call.now (lists slots.old.items))) }
-    ensures rest { OnOk result (first_list (lists slots.new.items) ≡ Call.rest (call_of call.now (lists slots.old.items))) }
+fn put_list(alloc: Global, slots: &mut Stack, call: &Replacing) -> Result<Vec<Hidden>, ExpandFault>
+    ensures list { Answers (λ list. map marked list.items) result (put_by (call_of call.now (lists slots.old))) }
+    ensures rest { OnOk result (first_list (lists slots.new) ≡ Call.rest (call_of call.now (lists slots.old))) }
 {
     let done = written_arguments(alloc, slots, call)?;
     let list = substitute(
@@ -99,7 +95,7 @@ fn put_list(
 /// Replaces a name. Its list stands in the answer.
 fn put(alloc: Global, level: &mut Level, call: &Replacing) -> Result<(), ExpandFault>
     requires work { level.old.work ≤ limit }
-    ensures ok { OnOk result ((macros : Macros) (here : HereValue) → LevelGoesOn macros here (level_replacing macros here level.old call.now) (suc (length (Call.rest (call_of call.now (lists level.old.slots.items))))) level.new) }
+    ensures ok { OnOk result ((macros : Macros) (here : HereValue) → LevelGoesOn macros here (level_replacing macros here level.old call.now) (suc (length (Call.rest (call_of call.now (lists level.old.slots))))) level.new) }
     ensures err { IfErr result (λ fault. (macros : Macros) (here : HereValue) → IsFaultOf fault (level_replacing macros here level.old call.now)) }
 {
     let mut list = put_list(alloc, &mut level.slots, call)?;
@@ -142,9 +138,9 @@ fn run(
     alloc: Global,
     here: &Here,
     definitions: &mut Definitions,
-    slots: Vec<Slot>,
+    slots: Stack,
 ) -> Result<Vec<Hidden>, ExpandFault>
-    ensures { AnswersList result (single_level (macros_of definitions.old) here.now (first_list (lists slots.items)) 0) }
+    ensures { AnswersList result (single_level (macros_of definitions.old) here.now (first_list (lists slots)) 0) }
 {
     let mut level = Level {
         slots,

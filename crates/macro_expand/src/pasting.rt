@@ -1,12 +1,12 @@
 // The second and the third pass over a replacement list (C17 6.10.3.3).
-ghost use Rattle.std.specs.Prelude.{◌≡◌, ◌++◌, IfOk, OnOk, map, if◌then◌else◌};
-ghost use Rattle.macro_expand.specs.Marked.{hiding, spaced};
+ghost use Rattle.std.specs.Prelude.{◌≡◌, ◌++◌, IfOk, OnOk, map};
+ghost use Rattle.macro_expand.specs.Marked.{hiding};
 ghost use Rattle.macro_expand.specs.Substituted.{pasted, as_words, words, first_spaced, is_joins, joined, join};
 ghost use Rattle.macro_expand.specs.States.{Answers, backwards, marked, hidden_names, piece_of};
 
 use crate::cell::Cell;
 use crate::fault::ExpandFault;
-use crate::hidden::{Hidden, fresh_hidden, hide_more, put_mark};
+use crate::hidden::{Hidden, fresh_hidden, hide_more, mark_first, put_mark};
 use crate::hide::{HideSet, intersection};
 use crate::one_token::one_kind;
 use mac_base::Bytes;
@@ -122,17 +122,6 @@ fn words_of(alloc: Global, cells: Vec<Cell>) -> Result<Vec<Hidden>, AllocError>
         push_word(&mut list, cell)?;
     }
     Ok(list)
-}
-
-/// The token, with this mark where it is the first.
-fn mark_first(first: bool, space: bool, hidden: Hidden) -> Hidden
-    ensures { marked result ≡ (if first then spaced space (marked hidden) else marked hidden) }
-{
-    if first {
-        put_mark(space, hidden)
-    } else {
-        hidden
-    }
 }
 
 /// The tokens with these names hidden too, the first with this mark.

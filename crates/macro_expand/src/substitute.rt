@@ -8,6 +8,7 @@ use crate::fault::ExpandFault;
 use crate::hidden::Hidden;
 use crate::hide::HideSet;
 use crate::pasting::{finish_cells, paste_cells};
+use crate::plain::{goes_in, hidden_copies};
 use macro_table::Def;
 use std::alloc::Global;
 
@@ -23,7 +24,12 @@ pub fn substitute(
     ensures { Answers (λ list. map marked list.items) result (substituted def.now name.now space (hidden_names hides.now) (map argument_of args.now)) }
 {
     let calls = def.params.is_some();
-    let mut cells = put_tokens(alloc, name, calls, args, def.body.as_slice())?;
+    let body = def.body.as_slice();
+    if goes_in(calls, args, body) {
+        let list = hidden_copies(alloc, space, hides, body)?;
+        return Ok(list);
+    }
+    let mut cells = put_tokens(alloc, name, calls, args, body)?;
     cells.reverse();
     let joined = paste_cells(alloc, cells)?;
     let list = finish_cells(alloc, space, hides, joined)?;

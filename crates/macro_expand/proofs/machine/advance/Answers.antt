@@ -1,11 +1,11 @@
-use Rattle.std.proofs.Common.{cond, rules, ◌≡◌, ◌<◌, ◌∙◌, ◌+◌, ◌∷◌, sym, ap, subst, refl, arith, drop, suc, false, None, [], length}
+use Rattle.std.proofs.Common.{rules, ◌≡◌, ◌<◌, ◌∙◌, ◌+◌, ◌∷◌, sym, ap, subst, refl, arith, drop, suc, false, None, [], length}
 use Rattle.macro_expand.specs.declared.here.Here.{Here}
 use Rattle.macro_expand.specs.declared.head.Replacing.{Replacing}
 use Rattle.macro_expand.specs.declared.cell.Given.{Given}
 use Rattle.macro_expand.specs.declared.machine.Frame.{Frame}
 use Rattle.macro_expand.specs.declared.machine.Machine.{Machine}
 use Rattle.macro_expand.specs.Macros.{Macros, params_of}
-use Rattle.macro_expand.specs.Calls.{stands_free, first_list}
+use Rattle.macro_expand.specs.Calls.{stands_free}
 use Rattle.macro_expand.specs.States.{stands_bound}
 use Rattle.macro_expand.specs.Slots.{lists}
 use Rattle.macro_expand.specs.Machine.{replacing, replacing_size, GoesOn, wanted_in}
@@ -28,10 +28,10 @@ returns-then-is_wanted-clause-ok c = λ macros here.
     let n : Machine = record { slots = c.loop-done.machine.slots; out = c.replace-out.new.dest; work = c.loop-done.machine.work; frames = c.push.new.self } in
     let f : Frame = record { out = c.replace-out.result; call = q; done = c.loop-done.done; name = c.in-Some.name; plain = c.in_ok-plain.plain } in
     goes_on_from macros here (replacing macros here c.loop-done.machine r c.loop-done.done.items) _ (suc (replacing_size c.loop-done.machine r)) _ n
-    (on_wanted macros here r q c.in-Some.name (lists c.loop-done.machine.slots.items) refl refl refl refl c.saturating_sub.ensures ps c.loop-done.machine n f c.loop-done.done.items refl (is ∙ c.if-is_wanted.true)
+    (on_wanted macros here r q c.in-Some.name (lists c.loop-done.machine.slots) refl refl refl refl c.saturating_sub.ensures ps c.loop-done.machine n f c.loop-done.done.items refl (is ∙ c.if-is_wanted.true)
     refl (ap (λ v. v.items) c.replace-out.ensures.after ∙ c.new.ensures.items) refl c.in_ok-push.ensures.items c.loop-done.invariant.work c.replace-out.ensures.value refl refl refl
     c.stands_bound-kept.result kept
-    (c.in_ok-plain.ensures ∙ ap (λ s. cond c.stands_bound-kept.result (first_list (lists s)) []) c.as_slice-then-is_wanted-3.ensures.value))
+    c.in_ok-plain.ensures)
     (sym (c.loop-done.invariant.same macros here)) (omega (arith, c.loop-done.invariant.less))
 
 pub loop-done-smaller : goal.loop-done-smaller
@@ -55,7 +55,7 @@ loop-done-preserved c =
     ap (λ b. wanted_in r.count (stands_free c.in-Some.name false b)) (sym body) ∙ ap (λ n. wanted_in r.count (stands_free n false c.as_slice-in-Some.result.now)) (sym c.as_slice.ensures) ∙ sym c.is_wanted.ensures in
     let n : Machine = record { slots = c.take_argument.new.slots; out = c.loop-done.machine.out; work = c.loop-done.machine.work; frames = c.loop-done.machine.frames } in
     let g : Given = record { name = c.in-Some.name; plain = c.in_ok-plain-2.plain; expanded = c.new-in-Some.result } in
-    let go : (macros : Macros) (here : Here) → (replacing macros here n q c.push-in-Some.new.self.items ≡ replacing macros here c.loop-done.machine r c.loop-done.done.items) × (replacing_size n q < replacing_size c.loop-done.machine r) = λ macros here. on_plain macros here r q c.in-Some.name (lists c.loop-done.machine.slots.items) refl refl refl refl c.saturating_sub.ensures ps c.loop-done.machine n g c.loop-done.done.items c.push-in-Some.new.self.items refl (is ∙ c.if-is_wanted.false)
+    let go : (macros : Macros) (here : Here) → (replacing macros here n q c.push-in-Some.new.self.items ≡ replacing macros here c.loop-done.machine r c.loop-done.done.items) × (replacing_size n q < replacing_size c.loop-done.machine r) = λ macros here. on_plain macros here r q c.in-Some.name (lists c.loop-done.machine.slots) refl refl refl refl c.saturating_sub.ensures ps c.loop-done.machine n g c.loop-done.done.items c.push-in-Some.new.self.items refl (is ∙ c.if-is_wanted.false)
     c.in_ok-plain-2.ensures.others refl refl refl (same_argument g c.in-Some.name _ refl c.in_ok-plain-2.ensures.list c.new-in-Some.ensures.items) c.in_ok-push-2.ensures.items in
     record {
       same = λ macros here. (go macros here).0 ∙ c.loop-done.invariant.same macros here;

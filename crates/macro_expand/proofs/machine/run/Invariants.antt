@@ -8,7 +8,7 @@ use Rattle.macro_expand.proofs.machine.run.Given as goal
 
 abbrev pub invariant-loop-machine : goal.invariant-loop-machine
 invariant-loop-machine l = record {
-  same : meaning (macros_of l.definitions) l.here l.machine ≡ expansion (macros_of l.fn.definitions) l.here (first_list (lists l.fn.slots.items)) 0;
+  same : meaning (macros_of l.definitions) l.here l.machine ≡ expansion (macros_of l.fn.definitions) l.here (first_list (lists l.fn.slots)) 0;
   kept : l.definitions ≡ l.fn.definitions;
   work : l.machine.work ≤ limit;
 }

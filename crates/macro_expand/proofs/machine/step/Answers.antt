@@ -25,7 +25,7 @@ returns-in_err-advance-in-Replaced-clause-err c =
     let m : Machine = c.args.machine.now in
     let h = rw c.in-Replaced.is at c.in_ok-token.ensures.head in
     let n : Machine = record m { slots = c.take_head.new.slots } in
-    let k = on_replaced M H m (lists m.slots.items) refl n (lists c.take_head.new.slots.items) refl refl c.in-Replaced.call h.0 h.1 refl refl in
+    let k = on_replaced M H m (lists m.slots) refl n (lists c.take_head.new.slots) refl refl c.in-Replaced.call h.0 h.1 refl refl in
     let same : meaning M H m ≡ replacing M H n c.in-Replaced.call c.new.result.items = sym k.0 ∙ ap (replacing M H n c.in-Replaced.call) (sym c.new.ensures.items) in
     rw (p.1, p.2) (fault_as c.in_err-advance-in-Replaced.field-0.0 (replacing M H n c.in-Replaced.call c.new.result.items) (meaning M H m) (λ e. same ∙ e) (c.in_err-advance-in-Replaced.ensures.err M H))
 
@@ -35,7 +35,7 @@ returns-in_default-clause-ok c =
     let H : Here = c.args.here.now in
     let m : Machine = c.args.machine.now in
     let h = rw c.in-Finished.is at c.in_ok-token.ensures.head in
-    on_end M H m (lists m.slots.items) refl (none_left _ (sym m.frames.ok.0 ∙ c.in_default.ensures.cases.0)) h.0
+    on_end M H m (lists m.slots) refl (none_left _ (sym m.frames.ok.0 ∙ c.in_default.ensures.cases.0)) h.0
 
 pub returns-in_err-advance-in-Finished-clause-err :
     goal.returns-in_err-advance-in-Finished-clause-err
@@ -48,7 +48,7 @@ returns-in_err-advance-in-Finished-clause-err c =
     let n : Machine = record m { slots = c.take_head.new.slots; out = c.replace-expanded.new.dest; frames = c.pop.new.self } in
     let f : Frame = c.in-Some.frame in
     let g : Given = record { name = f.name; plain = f.plain; expanded = c.replace-expanded.result } in
-    let k = on_return M H m (lists m.slots.items) refl n (lists c.take_head.new.slots.items) refl refl c.pop.new.self.items f g c.push-in-Finished.new.self.items h.0 h.1 c.in-Some.ensures.items
+    let k = on_return M H m (lists m.slots) refl n (lists c.take_head.new.slots) refl refl c.pop.new.self.items f g c.push-in-Finished.new.self.items h.0 h.1 c.in-Some.ensures.items
     (given_in f g m.out.items refl refl (ap (λ v. v.items) c.replace-expanded.ensures.value)) c.in_ok-push-in-Finished.ensures.items c.replace-expanded.ensures.after refl in
     rw (p.1, p.2) (fault_as c.in_err-advance-in-Finished.field-0.0 (replacing M H n f.call c.push-in-Finished.new.self.items) (meaning M H m) (λ e. sym k.0 ∙ e) (c.in_err-advance-in-Finished.ensures.err M H))
 
@@ -59,7 +59,7 @@ returns-in_ok-push-in-Stays-clause-ok c =
     let m : Machine = c.args.machine.now in
     let h = rw c.in-Stays.is at c.in_ok-token.ensures.head in
     let n : Machine = record m { slots = c.take_head.new.slots; out = c.push.new.self } in
-    on_stays M H m (lists m.slots.items) refl n (lists c.take_head.new.slots.items) refl refl c.in-Stays.token h.0 h.1 c.in_ok-push-in-Stays.ensures.items refl c.requires.work
+    on_stays M H m (lists m.slots) refl n (lists c.take_head.new.slots) refl refl c.in-Stays.token h.0 h.1 c.in_ok-push-in-Stays.ensures.items refl c.requires.work
 
 pub returns-in_ok-advance-in-Replaced-clause-ok : goal.returns-in_ok-advance-in-Replaced-clause-ok
 returns-in_ok-advance-in-Replaced-clause-ok c =
@@ -68,7 +68,7 @@ returns-in_ok-advance-in-Replaced-clause-ok c =
     let m : Machine = c.args.machine.now in
     let h = rw c.in-Replaced.is at c.in_ok-token.ensures.head in
     let n : Machine = record m { slots = c.take_head.new.slots } in
-    let k = on_replaced M H m (lists m.slots.items) refl n (lists c.take_head.new.slots.items) refl refl c.in-Replaced.call h.0 h.1 refl refl in
+    let k = on_replaced M H m (lists m.slots) refl n (lists c.take_head.new.slots) refl refl c.in-Replaced.call h.0 h.1 refl refl in
     let same : meaning M H m ≡ replacing M H n c.in-Replaced.call c.new.result.items = sym k.0 ∙ ap (replacing M H n c.in-Replaced.call) (sym c.new.ensures.items) in
     goes_on_from M H (replacing M H n c.in-Replaced.call c.new.result.items) (meaning M H m) (suc (replacing_size n c.in-Replaced.call)) (size m) c.advance.new.machine (c.in_ok-advance-in-Replaced.ensures.ok M H) same k.1
 
@@ -81,6 +81,6 @@ returns-in_ok-advance-in-Finished-clause-ok c =
     let n : Machine = record m { slots = c.take_head.new.slots; out = c.replace-expanded.new.dest; frames = c.pop.new.self } in
     let f : Frame = c.in-Some.frame in
     let g : Given = record { name = f.name; plain = f.plain; expanded = c.replace-expanded.result } in
-    let k = on_return M H m (lists m.slots.items) refl n (lists c.take_head.new.slots.items) refl refl c.pop.new.self.items f g c.push-in-Finished.new.self.items h.0 h.1 c.in-Some.ensures.items
+    let k = on_return M H m (lists m.slots) refl n (lists c.take_head.new.slots) refl refl c.pop.new.self.items f g c.push-in-Finished.new.self.items h.0 h.1 c.in-Some.ensures.items
     (given_in f g m.out.items refl refl (ap (λ v. v.items) c.replace-expanded.ensures.value)) c.in_ok-push-in-Finished.ensures.items c.replace-expanded.ensures.after refl in
     goes_on_from M H (replacing M H n f.call c.push-in-Finished.new.self.items) (meaning M H m) (suc (replacing_size n f.call)) (size m) c.advance-in-Finished.new.machine (c.in_ok-advance-in-Finished.ensures.ok M H) (sym k.0) k.1

@@ -23,8 +23,8 @@ returns-in_err-out c =
     let slots = c.in_ok-slots.ensures ∙ ap (λ ts. map fresh ts ∷ []) c.as_slice-2.ensures in
     let lone : has_lone_quote c.args.tokens.now ≡ false = ap has_lone_quote (sym c.as_slice.ensures) ∙ sym c.has_lone_quote.ensures ∙ c.if-has_lone_quote.false in
     rw (p.1, p.2) (record {
-      exact = exact_err (ExpandsOnce M H) (single_level M H) (complete_level M H) c.args.tokens.now (lists c.in_ok-slots.slots.items) lone slots c.in_err-out.field-0.0
-          (subst (λ t. AnswersList (Err c.in_err-out.field-0.0) (single_level (macros_of t) H (first_list (lists c.in_ok-slots.slots.items)) 0)) c.new-definitions.ensures c.in_err-out.ensures);
+      exact = exact_err (ExpandsOnce M H) (single_level M H) (complete_level M H) c.args.tokens.now (lists c.in_ok-slots.slots) lone slots c.in_err-out.field-0.0
+          (subst (λ t. AnswersList (Err c.in_err-out.field-0.0) (single_level (macros_of t) H (first_list (lists c.in_ok-slots.slots)) 0)) c.new-definitions.ensures c.in_err-out.ensures);
     })
 
 pub returns : goal.returns
@@ -34,6 +34,6 @@ returns c =
     let slots = c.in_ok-slots.ensures ∙ ap (λ ts. map fresh ts ∷ []) c.as_slice-2.ensures in
     let lone : has_lone_quote c.args.tokens.now ≡ false = ap has_lone_quote (sym c.as_slice.ensures) ∙ sym c.has_lone_quote.ensures ∙ c.if-has_lone_quote.false in
     record {
-      exact = exact_ok (ExpandsOnce M H) (single_level M H) (complete_level M H) c.args.tokens.now (lists c.in_ok-slots.slots.items) lone slots c.in_ok-out.out c.in_ok-all.all
-          (subst (λ t. AnswersList (Ok c.in_ok-out.out) (single_level (macros_of t) H (first_list (lists c.in_ok-slots.slots.items)) 0)) c.new-definitions.ensures c.in_ok-out.ensures) c.in_ok-all.ensures;
+      exact = exact_ok (ExpandsOnce M H) (single_level M H) (complete_level M H) c.args.tokens.now (lists c.in_ok-slots.slots) lone slots c.in_ok-out.out c.in_ok-all.all
+          (subst (λ t. AnswersList (Ok c.in_ok-out.out) (single_level (macros_of t) H (first_list (lists c.in_ok-slots.slots)) 0)) c.new-definitions.ensures c.in_ok-out.ensures) c.in_ok-all.ensures;
     }

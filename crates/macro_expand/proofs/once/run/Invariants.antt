@@ -8,7 +8,7 @@ use Rattle.macro_expand.proofs.once.run.Given as goal
 
 abbrev pub invariant-loop-level : goal.invariant-loop-level
 invariant-loop-level l = record {
-  same : level_meaning (macros_of l.definitions) l.here l.level ≡ single_level (macros_of l.fn.definitions) l.here (first_list (lists l.fn.slots.items)) 0;
+  same : level_meaning (macros_of l.definitions) l.here l.level ≡ single_level (macros_of l.fn.definitions) l.here (first_list (lists l.fn.slots)) 0;
   kept : l.definitions ≡ l.fn.definitions;
   work : l.level.work ≤ limit;
 }

@@ -7,8 +7,8 @@ use Rattle.macro_expand.proofs.once.written_arguments.Given as goal
 
 abbrev pub invariant-loop-done : goal.invariant-loop-done
 invariant-loop-done l = record {
-  args : map argument_of l.done.items ++ written_rest l.call.def.value l.next l.count (lists l.slots.items) ≡ written_rest l.call.def.value l.call.next l.call.count (lists l.fn.slots.items);
-  rest : drop l.count (lists l.slots.items) ≡ drop l.call.count (lists l.fn.slots.items);
+  args : map argument_of l.done.items ++ written_rest l.call.def.value l.next l.count (lists l.slots) ≡ written_rest l.call.def.value l.call.next l.call.count (lists l.fn.slots);
+  rest : drop l.count (lists l.slots) ≡ drop l.call.count (lists l.fn.slots);
 }
 
 abbrev pub decreases-loop-done : goal.decreases-loop-done

@@ -1,5 +1,5 @@
 use Rattle.std.proofs.Common.{◌≡◌, ◌+◌, ◌≤◌, take, drop, length}
-use Rattle.macro_expand.specs.Slots.{places, opened, passed}
+use Rattle.macro_expand.specs.Slots.{places, opened, passed, turned, AreRight}
 use Rattle.macro_expand.proofs.slots.cut_arguments.Given as goal
 
 abbrev pub invariant-loop-at : goal.invariant-loop-at
@@ -8,6 +8,8 @@ invariant-loop-at l = record {
   within : l.at ≤ length l.slots.items;
   few : l.count + l.at ≤ length l.slots.items;
   deep : l.depth + l.at ≤ length l.slots.items;
+  above : AreRight (turned (drop l.at l.slots.items));
+  below : AreRight (turned (take l.at l.slots.items));
 }
 
 abbrev pub decreases-loop-at : goal.decreases-loop-at

@@ -1,0 +1,75 @@
+// Hide sets that were made of another set and a name. Those of one name are mostly the same, and then they are shared.
+ghost use Rattle.std.specs.Prelude.{◌≡◌, All, IfOk, true};
+ghost use Rattle.macro_expand.specs.Marked.{with_name};
+ghost use Rattle.macro_expand.specs.States.{name_text, hidden_names};
+ghost use Rattle.macro_expand.specs.Known.{IsMade};
+
+use crate::hide::{HideSet, Name, is_listed_alike, no_hides, same_hides, with_name};
+use std::alloc::{AllocError, Global};
+
+/// The hide set that was last made for a name: with the name, of another set.
+#[derive(Drop)]
+pub struct Made {
+    pub name: Name,
+    pub from: HideSet,
+    pub with: HideSet,
+}
+
+/// The set made of this set and this name.
+fn made_of(alloc: Global, name: &Name, set: &HideSet) -> Result<Made, AllocError>
+    ensures made { IfOk result IsMade }
+    ensures with { IfOk result (λ made. hidden_names made.with ≡ with_name (name_text name.now) (hidden_names set.now)) }
+{
+    let with = with_name(alloc, name, set)?;
+    Ok(Made {
+        name: name.same()?,
+        from: same_hides(set)?,
+        with,
+    })
+}
+
+/// Remembers a set for one name more, and answers its number.
+pub fn add_name(alloc: Global, sets: &mut Vec<Made>, name: &Name) -> Result<usize, AllocError>
+    requires { All IsMade sets.old.items }
+    ensures { All IsMade sets.new.items }
+{
+    let number = sets.len();
+    let made = made_of(alloc, name, &no_hides())?;
+    sets.push(made)?;
+    Ok(number)
+}
+
+/// Whether this was made of the set and the name.
+fn serves(made: &Made, name: &Name, set: &HideSet) -> bool
+    requires { IsMade made.now }
+    ensures { result ≡ true → hidden_names made.now.with ≡ with_name (name_text name.now) (hidden_names set.now) }
+{
+    made.name.as_slice() == name.as_slice() && is_listed_alike(&made.from, set)
+}
+
+/// The set with the name more. It is remembered as the last one that was made for the name of this number.
+pub fn hide_name(
+    alloc: Global,
+    sets: &mut Vec<Made>,
+    number: usize,
+    name: &Name,
+    set: &HideSet,
+) -> Result<HideSet, AllocError>
+    requires { All IsMade sets.old.items }
+    ensures made { All IsMade sets.new.items }
+    ensures set { IfOk result (λ more. hidden_names more ≡ with_name (name_text name.now) (hidden_names set.now)) }
+{
+    if number >= sets.len() {
+        let more = with_name(alloc, name, set)?;
+        return Ok(more);
+    }
+    let last = &sets[number];
+    if serves(last, name, set) {
+        let same = same_hides(&last.with)?;
+        return Ok(same);
+    }
+    let made = made_of(alloc, name, set)?;
+    let same = same_hides(&made.with)?;
+    sets[number] = made;
+    Ok(same)
+}
