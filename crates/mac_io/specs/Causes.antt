@@ -14,3 +14,7 @@ pub record HasCause (before now : ℕ) (failed : Type 0) : Type 0 where
   pub later : before ≤ now
   pub rose : failed → Rose before now
   pub kept : (failed → ⊥) → now ≡ before
+
+-- counts together; the last number of 64 bits stands still
+abbrev pub capped : ℕ → ℕ
+capped count = min count (2 ^ 64 - 1)

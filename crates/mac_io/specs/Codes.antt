@@ -1,8 +1,8 @@
 -- Codes of the models' values, by which proofs tell them apart. They say nothing of the values.
-use Rattle.std.specs.Prelude.{ℕ, List, Option, refl}
-use Rattle.std.specs.Coded.{Coded, code_by, coded×, coded_ℕ, coded_list, coded_option}
+use Rattle.std.specs.Prelude.{ℕ, List, refl}
+use Rattle.std.specs.Coded.{Coded, code_by, coded×, coded_ℕ, coded_list}
 use Rattle.std.specs.FinMap as map
-use Rattle.mac_io.specs.Files.{Files, Stores}
+use Rattle.mac_io.specs.Files.{Files}
 use Rattle.mac_io.specs.InMemory.{CallLog, MemoryShelf}
 
 -- lists of lists of numbers
@@ -20,7 +20,3 @@ coded_log = code_by (List ℕ × (ℕ × ℕ)) (coded× coded_bytes (coded× cod
 -- shelves in memory
 abbrev pub coded_shelf : Coded MemoryShelf
 coded_shelf = code_by (Files × CallLog) (coded× coded_files coded_log) (λ s. (s.files, s.log)) (λ p. record { files = p.0; log = p.1 }) (λ _. refl)
-
--- stores of a search path
-abbrev pub coded_stores : Coded Stores
-coded_stores = code_by (List (List ℕ × Option Files) × ℕ) (coded× (coded_list (coded× coded_bytes (coded_option coded_files))) coded_ℕ) (λ s. (s.stores, s.faults)) (λ p. record { stores = p.0; faults = p.1 }) (λ _. refl)

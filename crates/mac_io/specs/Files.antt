@@ -35,8 +35,3 @@ files_of names contents = map.from_entries (zip names contents)
 abbrev pub are_distinct : List (List ℕ) → Bool
 are_distinct [] = true
 are_distinct (name ∷ names) = not (list_any (λ other. bytes_eq other name) names) && are_distinct names
-
--- the stores of a search path in order, each with its label and its files, and how often a call has failed
-pub record Stores : Type 0 where
-  pub stores : List (List ℕ × Option Files)
-  pub faults : ℕ

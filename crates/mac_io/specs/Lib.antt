@@ -3,3 +3,5 @@ pub mod Files
 pub mod Calls
 pub mod InMemory
 pub mod Codes
+pub mod Search
+pub mod SearchLaws

@@ -61,7 +61,7 @@ impl<R: Files + Drop> Shelf for DirShelf<R> {
 }
 
 /// Appends the file of this name, where it has at most so many bytes.
-fn fetch<R: Files>(rt: &R, name: &[u8], limit: usize, into: &mut Vec<u8>) -> Fetched
+pub fn fetch<R: Files>(rt: &R, name: &[u8], limit: usize, into: &mut Vec<u8>) -> Fetched
     ensures { (file : Option (List ℕ)) × Fetches file limit result into.old.items into.new.items }
 {
     let Ok(path) = str::from_utf8(name) else {

@@ -3,21 +3,35 @@
 #![tactic(auto)]
 
 mod dir_shelf;
+mod dir_store;
 mod failures;
 mod headers;
+mod laws;
 mod map_shelf;
+mod map_store;
+mod path_text;
+mod search;
+mod search_path;
 mod shelf;
 mod sink;
 mod std_sink;
+mod store;
 mod vec_sink;
 
 pub use dir_shelf::DirShelf;
-pub use headers::{Headers, SearchPath};
+pub use dir_store::DirStore;
+pub use headers::{FileId, Form, Headers, Located};
+pub use laws::search_has_one_answer;
 pub use map_shelf::{MapShelf, are_distinct};
+pub use map_store::MapStore;
+pub use search_path::SearchPath;
 pub use shelf::{Fetched, Put, Shelf};
 pub use sink::{Sink, Wrote};
 pub use std_sink::StdSink;
+pub use store::HeaderStore;
 pub use vec_sink::VecSink;
 
+#[cfg(test)]
+mod path_tests;
 #[cfg(test)]
 mod tests;

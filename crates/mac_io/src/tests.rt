@@ -1,7 +1,4 @@
-use crate::{
-    DirShelf, Fetched, Headers, MapShelf, Put, SearchPath, Shelf, Sink, StdSink, VecSink, Wrote,
-    are_distinct,
-};
+use crate::{DirShelf, Fetched, MapShelf, Put, Shelf, Sink, StdSink, VecSink, Wrote, are_distinct};
 use mac_base::{Bytes, NoMemory, Paths};
 use std::alloc::Global;
 use std::fs;
@@ -129,13 +126,4 @@ fn a_writer_that_cannot_write_is_counted(rt: HostRuntime) -> Result<(), Fail> {
     assert_eq!(rt; sink.flush(), Wrote::Failed);
     assert_eq!(rt; sink.faults(), 1);
     Ok(())
-}
-
-fn check_count<P: Headers>(rt: &impl Abort, path: &P, count: u64) {
-    assert_eq!(rt; path.faults(), count);
-}
-
-#[test]
-fn a_new_path_has_no_fault(rt: HostRuntime) {
-    check_count(&rt, &SearchPath::new(), 0);
 }
