@@ -1,0 +1,17 @@
+pub mod Groups
+pub mod Structure
+pub mod Reached
+pub mod Conditions
+pub mod Following
+pub mod Running
+pub mod Laws
+pub mod FollowingLaws
+pub mod Directives
+pub mod Defined
+pub mod Numbers
+pub mod Constants
+pub mod Expressions
+pub mod Values
+pub mod Meanings
+pub mod Frames
+pub mod ValueLaws

@@ -1,0 +1,129 @@
+ghost use Rattle.std.specs.Prelude.{◌≡◌, ◌<◌, ℕ, Bool, List, [], length, Ok, Err, IfOk, IfErr, IfSome, IfNone, MatchOption};
+ghost use Rattle.pp_tokens.specs.declared.token.Token.{Token as TokenValue};
+ghost use Rattle.pp_tokens.specs.Kinds.{same};
+ghost use Rattle.macro_table.specs.Answers.{Answers, IsFaultOf};
+ghost use Rattle.pp_directives.specs.declared.fault.ExprFault.TheVariants.{Syntax, NoMemory as RanOut};
+ghost use Rattle.pp_directives.specs.Defined.{is_built_in, is_defined, truth, before, resolved, behind_defined, behind_parenthesis};
+
+use crate::fault::ExprFault;
+use crate::spelled::{is_identifier, is_spelled, is_text};
+use mac_base::{Bytes, NoMemory};
+use macro_table::Table;
+use pp_tokens::{Kind, Token, Tokens};
+use std::alloc::Global;
+
+/// A use of `defined`: its name, and the tokens behind it.
+#[derive(Clone, Copy)]
+struct Use<'a> {
+    name: &'a Token,
+    behind: &'a [Token],
+}
+
+/// The first of the tokens that come out, and those behind what it was made of.
+#[derive(Drop)]
+struct Piece<'a> {
+    token: Token,
+    behind: &'a [Token],
+}
+
+/// Whether a name is defined as a macro (C17 6.10.1 p1). `__LINE__` and `__FILE__` always are (6.10.8.1).
+pub fn is_defined(table: &Table, name: &[u8]) -> bool
+    ensures { result ≡ is_defined table.now name.now }
+{
+    is_built_in(name) || table.get(name).is_some()
+}
+
+/// `__LINE__` or `__FILE__`.
+fn is_built_in(name: &[u8]) -> bool
+    ensures { result ≡ is_built_in name.now }
+{
+    is_text(name, b"__LINE__") || is_text(name, b"__FILE__")
+}
+
+/// The number in the place of a `defined`, with its mark of white space.
+fn truth(alloc: Global, defined: &Token, held: bool) -> Result<Token, NoMemory>
+    ensures { IfOk result (λ token. token ≡ truth defined.now held) }
+{
+    let digit = if held { b'1' } else { b'0' };
+    let mut text = Bytes::new(alloc);
+    text.push(digit)?;
+    Ok(Token {
+        kind: Kind::Number,
+        text,
+        space: defined.space,
+    })
+}
+
+/// The name that follows `(` and stands before `)`.
+fn use_in_parentheses<'a>(tokens: &'a [Token]) -> Option<Use<'a>>
+    ensures some { IfSome result (λ found. (defined : List ℕ → Bool) (t : TokenValue) → behind_parenthesis defined t tokens.now ≡ before (truth t (defined found.name.now.text)) (resolved defined found.behind.now)) }
+    ensures none { IfNone result ((defined : List ℕ → Bool) (t : TokenValue) → behind_parenthesis defined t tokens.now ≡ Err Syntax) }
+    ensures less { IfSome result (λ found. length found.behind.now < length tokens.now) }
+{
+    let [name, rest @ ..] = tokens else {
+        return None;
+    };
+    if !is_identifier(name) {
+        return None;
+    }
+    match rest {
+        [close, behind @ ..] if is_spelled(b")", close) => Some(Use { name, behind }),
+        _ => None,
+    }
+}
+
+/// The name that follows `defined`, alone or in parentheses, if one does.
+fn use_of<'a>(tokens: &'a [Token]) -> Option<Use<'a>>
+    ensures some { IfSome result (λ found. (defined : List ℕ → Bool) (t : TokenValue) → behind_defined defined t tokens.now ≡ before (truth t (defined found.name.now.text)) (resolved defined found.behind.now)) }
+    ensures none { IfNone result ((defined : List ℕ → Bool) (t : TokenValue) → behind_defined defined t tokens.now ≡ Err Syntax) }
+    ensures less { IfSome result (λ found. length found.behind.now < length tokens.now) }
+{
+    match tokens {
+        [name, behind @ ..] if is_identifier(name) => Some(Use { name, behind }),
+        [open, behind @ ..] if is_spelled(b"(", open) => use_in_parentheses(behind),
+        _ => None,
+    }
+}
+
+/// The first of the tokens that come out, if there is one.
+fn first_piece<'a>(
+    alloc: Global,
+    table: &Table,
+    tokens: &'a [Token],
+) -> Result<Option<Piece<'a>>, ExprFault>
+    ensures ok { IfOk result (λ found. MatchOption found (resolved (is_defined table.now) tokens.now ≡ Ok []) (λ next. resolved (is_defined table.now) tokens.now ≡ before next.token (resolved (is_defined table.now) next.behind.now))) }
+    ensures less { IfOk result (λ found. IfSome found (λ next. length next.behind.now < length tokens.now)) }
+    ensures err { IfErr result (IsFaultOf RanOut (resolved (is_defined table.now) tokens.now)) }
+{
+    let Some((token, behind)) = tokens.split_first() else {
+        return Ok(None);
+    };
+    if !is_spelled(b"defined", token) {
+        return Ok(Some(Piece {
+            token: token.copy()?,
+            behind,
+        }));
+    }
+    let Some(Use { name, behind }) = use_of(behind) else {
+        return Err(ExprFault::Syntax);
+    };
+    let held = is_defined(table, name.text.as_slice());
+    Ok(Some(Piece {
+        token: truth(alloc, token, held)?,
+        behind,
+    }))
+}
+
+/// The tokens of a condition, where each `defined NAME` and each `defined ( NAME )` is replaced by the number 1 or 0 (C17
+/// 6.10.1 p1). Another use of `defined` is `Syntax`.
+pub fn resolve_defined(alloc: Global, tokens: &Tokens, table: &Table) -> Result<Tokens, ExprFault>
+    ensures { Answers RanOut result (resolved (is_defined table.now) tokens.now) }
+{
+    let mut done = Tokens::new(alloc);
+    let mut left = tokens.as_slice();
+    while let Some(Piece { token, behind }) = first_piece(alloc, table, left)? {
+        done.push(token)?;
+        left = behind;
+    }
+    Ok(done)
+}
