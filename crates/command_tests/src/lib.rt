@@ -4,6 +4,8 @@
 #[cfg(test)]
 mod elf;
 #[cfg(test)]
+mod expansion;
+#[cfg(test)]
 mod outside;
 #[cfg(test)]
 mod raw;

@@ -5,7 +5,7 @@ use std::alloc::Global;
 use std::process::Abort;
 use std::test::Fail;
 
-/// More than any text of these tests has.
+/// More than nearly all texts of these tests have.
 const ROOM: usize = 65_536;
 
 /// A run: the words, the one file of the shelf, the calls that fail, and what the run is to leave.
@@ -17,6 +17,8 @@ pub struct Case<'a> {
     pub shelf_fails: &'a [u64],
     pub out_fails: &'a [u64],
     pub err_fails: &'a [u64],
+    /// How many bytes `out` takes.
+    pub room: usize,
     pub status: Status,
     pub out: &'a [u8],
     pub err: &'a [u8],
@@ -36,6 +38,7 @@ pub fn prints<'a>(
         shelf_fails: &[],
         out_fails: &[],
         err_fails: &[],
+        room: ROOM,
         status: Status::Ok,
         out,
         err: b"",
@@ -56,6 +59,7 @@ pub fn refuses<'a>(
         shelf_fails: &[],
         out_fails: &[],
         err_fails: &[],
+        room: ROOM,
         status: Status::Refused,
         out: b"",
         err,
@@ -71,6 +75,7 @@ pub fn usage<'a>(words: &'a [&'a [u8]], name: &'a [u8], file: &'a [u8]) -> Case<
         shelf_fails: &[],
         out_fails: &[],
         err_fails: &[],
+        room: ROOM,
         status: Status::Usage,
         out: b"",
         err: b"dwmac: usage\n",
@@ -98,9 +103,9 @@ pub fn check(rt: &impl Abort, alloc: Global, case: &Case<'_>) -> Result<(), Fail
     assert_eq!(rt; names.len(), contents.len());
     let shelf_fails = Vec::from_slice(alloc, case.shelf_fails)?;
     let mut shelf = MapShelf::new(alloc, names, contents, shelf_fails);
-    let mut out = VecSink::new(alloc, ROOM, Vec::from_slice(alloc, case.out_fails)?)?;
+    let mut out = VecSink::new(alloc, case.room, Vec::from_slice(alloc, case.out_fails)?)?;
     let mut err = VecSink::new(alloc, ROOM, Vec::from_slice(alloc, case.err_fails)?)?;
-    let mut path = SearchPath::new();
+    let mut path = SearchPath::new(alloc);
     let status = run(alloc, &words, &mut path, &mut shelf, &mut out, &mut err);
     assert_eq!(rt; out.text(), case.out);
     assert_eq!(rt; err.text(), case.err);

@@ -21,12 +21,13 @@ const BARE_ROOT: &[u8] = b"\x13\0\0\0\x05\0\x01\x08\0\0\0\0\x03m.c\0.\0\0\0\0\0"
 const ABBREVS: &[u8] =
     b"\x01\x11\0\x03\x08\x1b\x08\x79\x17\x10\x17\0\0\x02\x11\0\x03\x08\x1b\x08\x79\x17\x10\x17\x72\x17\0\0\x03\x11\0\x03\x08\x1b\x08\x79\x17\0\0\x04\x11\0\x03\x08\x1b\x08\x79\x17\x72\x17\0\0\0";
 
-fn two_units(alloc: Global) -> Result<Vec<u8>, AllocError> {
+/// The file whose root undefines A behind the file that defines it.
+pub fn two_units(alloc: Global) -> Result<Vec<u8>, AllocError> {
     whole(alloc, TWO_UNITS, TWO_FILES, ROOT_AT_10, ABBREVS)
 }
 
 /// A file whose root's unit stands at 0, without a line table of the root's.
-fn bare(alloc: Global, macros: &[u8]) -> Result<Vec<u8>, AllocError> {
+pub fn bare(alloc: Global, macros: &[u8]) -> Result<Vec<u8>, AllocError> {
     whole(alloc, macros, TWO_FILES, BARE_ROOT, ABBREVS)
 }
 

@@ -6,14 +6,14 @@ use Rattle.std.specs.FinMap as map
 use borrow.Author.Tests.{le-ltb, lt-ltb}
 use Rattle.mac_io.specs.Files.{Files, IsFileAt}
 use Rattle.macro_query.specs.declared.fault.QueryFault.{QueryFault}
-use Rattle.macro_query.specs.declared.fault.QueryFault.TheVariants.{Elf as QueryElf, Info as QueryInfo, Line as QueryLine, Unit as QueryUnit, NoSuchUnit as QueryNoSuchUnit, Position as QueryPosition, ReportTooLong, NoMemory as QueryRanOut}
+use Rattle.macro_query.specs.declared.fault.QueryFault.TheVariants.{Elf as QueryElf, Info as QueryInfo, Line as QueryLine, Unit as QueryUnit, NoSuchUnit as QueryNoSuchUnit, Position as QueryPosition, Text as QueryText, Expand as QueryExpand, ReportTooLong, NoMemory as QueryRanOut}
 use Rattle.macro_query.specs.Limits.{within_limit, Answers}
-use Rattle.macro_query.specs.Queries.{RawSays, UnitAtSays, DumpSays, InfoSays, ListSays}
+use Rattle.macro_query.specs.Queries.{RawSays, UnitAtSays, DumpSays, InfoSays, ListSays, ExpandSays, OnceSays}
 use Rattle.macro_query.specs.Laws.{One as OneSaid}
 use Rattle.macro_query.proofs.QueryLemmas.{one_raw, one_unit_at}
-use Rattle.macro_query.proofs.OneAnswerLemmas.{one_dump, one_info, one_list}
+use Rattle.macro_query.proofs.OneAnswerLemmas.{one_dump, one_info, one_list, one_expand, one_once}
 use Rattle.dwmac_run.specs.declared.refusal.Refusal.TheVariants.{NoSuchFile, FileTooLong}
-use Rattle.dwmac_run.specs.Command.{Command, Raw, UnitAt, Dump, Info, ListAt, Help, Version, command_of}
+use Rattle.dwmac_run.specs.Command.{Command, Raw, UnitAt, Dump, Info, ListAt, Expand, Once, Help, Version, command_of}
 use Rattle.dwmac_run.specs.Help.{help_text, version_text}
 use Rattle.dwmac_run.specs.Refusals.{refusal_line}
 use Rattle.dwmac_run.specs.Answer.{Answer, Prints, Refuses, Misuse, answer_by, QueryAnswer, FileAnswer, NoFileAnswer, IsNoFile, AboutFile, AnswerTo, IsAnswer, most_bytes}
@@ -58,6 +58,8 @@ one_answer_to (Some (UnitAt file offset)) files a b is also = one_about file fil
 one_answer_to (Some (Dump file)) files a b is also = one_about file files DumpSays one_dump a b is also
 one_answer_to (Some (Info file position name)) files a b is also = one_about file files (InfoSays position name) (one_info position name) a b is also
 one_answer_to (Some (ListAt file position)) files a b is also = one_about file files (ListSays position) (one_list position) a b is also
+one_answer_to (Some (Expand file position text)) files a b is also = one_about file files (ExpandSays position text) (one_expand position text) a b is also
+one_answer_to (Some (Once file position text)) files a b is also = one_about file files (OnceSays position text) (one_once position text) a b is also
 one_answer_to (Some Help) files a b is also = is ∙ sym also
 one_answer_to (Some Version) files a b is also = is ∙ sym also
 
@@ -95,6 +97,8 @@ answer_to (Some (UnitAt file offset)) told = about_answer file told (UnitAtSays 
 answer_to (Some (Dump file)) told = about_answer file told DumpSays one_dump
 answer_to (Some (Info file position name)) told = about_answer file told (InfoSays position name) (one_info position name)
 answer_to (Some (ListAt file position)) told = about_answer file told (ListSays position) (one_list position)
+answer_to (Some (Expand file position text)) told = about_answer file told (ExpandSays position text) (one_expand position text)
+answer_to (Some (Once file position text)) told = about_answer file told (OnceSays position text) (one_once position text)
 answer_to (Some Help) told = (Prints help_text, refl)
 answer_to (Some Version) told = (Prints version_text, refl)
 
@@ -110,6 +114,8 @@ told_says file Says (Err (QueryLine fault)) said says is = (said, says, ap (answ
 told_says file Says (Err QueryNoSuchUnit) said says is = (said, says, ap (answer_by file) is)
 told_says file Says (Err (QueryPosition fault)) said says is = (said, says, ap (answer_by file) is)
 told_says file Says (Err (QueryUnit fault)) said says is = (said, says, ap (answer_by file) is)
+told_says file Says (Err (QueryText fault)) said says is = (said, says, ap (answer_by file) is)
+told_says file Says (Err (QueryExpand fault)) said says is = (said, says, ap (answer_by file) is)
 told_says file Says (Err ReportTooLong) said says is = (said, says, ap (answer_by file) is)
 told_says file Says (Err QueryRanOut) said says is = tt
 

@@ -4,9 +4,9 @@ use Rattle.std.specs.Bool.{MatchBool}
 use Rattle.mac_io.specs.Files.{Files, IsFileAt}
 use Rattle.macro_query.specs.declared.fault.QueryFault.{QueryFault}
 use Rattle.macro_query.specs.Limits.{within_limit}
-use Rattle.macro_query.specs.Queries.{RawSays, UnitAtSays, DumpSays, InfoSays, ListSays}
+use Rattle.macro_query.specs.Queries.{RawSays, UnitAtSays, DumpSays, InfoSays, ListSays, ExpandSays, OnceSays}
 use Rattle.dwmac_run.specs.declared.refusal.Refusal.TheVariants.{NoSuchFile, FileTooLong}
-use Rattle.dwmac_run.specs.Command.{Command, Raw, UnitAt, Dump, Info, ListAt, Help, Version, command_of}
+use Rattle.dwmac_run.specs.Command.{Command, Raw, UnitAt, Dump, Info, ListAt, Expand, Once, Help, Version, command_of}
 use Rattle.dwmac_run.specs.Help.{help_text, version_text}
 use Rattle.dwmac_run.specs.Refusals.{refusal_line, fault_line}
 
@@ -55,6 +55,8 @@ AnswerTo (Some (UnitAt file offset)) told answer = AboutFile told file (UnitAtSa
 AnswerTo (Some (Dump file)) told answer = AboutFile told file DumpSays answer
 AnswerTo (Some (Info file position name)) told answer = AboutFile told file (InfoSays position name) answer
 AnswerTo (Some (ListAt file position)) told answer = AboutFile told file (ListSays position) answer
+AnswerTo (Some (Expand file position text)) told answer = AboutFile told file (ExpandSays position text) answer
+AnswerTo (Some (Once file position text)) told answer = AboutFile told file (OnceSays position text) answer
 AnswerTo (Some Help) told answer = answer ≡ Prints help_text
 AnswerTo (Some Version) told answer = answer ≡ Prints version_text
 

@@ -4,7 +4,7 @@ use Rattle.std.specs.Option.{option_map}
 use Rattle.std.specs.List.{list_any}
 use Rattle.std.specs.Str.{bytes_eq}
 use Rattle.dwmac_run.specs.declared.command.Command.{Command as HeldCommand}
-use Rattle.dwmac_run.specs.declared.command.Command.TheVariants.{Raw as HeldRaw, Unit as HeldUnit, Dump as HeldDump, Info as HeldInfo, List as HeldList, Help as HeldHelp, Version as HeldVersion}
+use Rattle.dwmac_run.specs.declared.command.Command.TheVariants.{Raw as HeldRaw, Unit as HeldUnit, Dump as HeldDump, Info as HeldInfo, List as HeldList, Expand as HeldExpand, Once as HeldOnce, Help as HeldHelp, Version as HeldVersion}
 use Rattle.position_table.specs.declared.position.Position.{Position}
 use Rattle.position_table.specs.declared.position.Position.TheVariants.{Chain, Named}
 use Rattle.position_table.specs.Positions.{position_of}
@@ -21,6 +21,10 @@ pub data Command : Type 0 where
   Info : List ℕ → Position → List ℕ → Command
   -- all definitions at this position in the file
   ListAt : List ℕ → Position → Command
+  -- what this text expands to at this position in the file
+  Expand : List ℕ → Position → List ℕ → Command
+  -- a single level of that
+  Once : List ℕ → Position → List ℕ → Command
   -- how the program is called
   Help : Command
   -- which program it is
@@ -33,6 +37,8 @@ plain (HeldUnit file offset) = UnitAt file.now offset
 plain (HeldDump file) = Dump file.now
 plain (HeldInfo file position name) = Info file.now position name.now
 plain (HeldList file position) = ListAt file.now position
+plain (HeldExpand file position text) = Expand file.now position text.now
+plain (HeldOnce file position text) = Once file.now position text.now
 plain HeldHelp = Help
 plain HeldVersion = Version
 
@@ -97,10 +103,18 @@ command_of_three verb file place =
     else if bytes_eq verb (codes "list") then option_map (ListAt file) (known_position (position_of place))
     else None
 
--- `info FILE POS NAME`
+-- with a name at a position
+abbrev pub info_of : List ℕ → List ℕ → List ℕ → Option Command
+info_of file place name = if is_name_word name then option_map (λ position. Info file position name) (known_position (position_of place)) else None
+
+-- `info FILE POS NAME`, `expand FILE POS TEXT` and `once FILE POS TEXT`; a text may be any word
 abbrev pub command_of_four : List ℕ → List ℕ → List ℕ → List ℕ → Option Command
-command_of_four verb file place name =
-    if bytes_eq verb (codes "info") && (is_file_word file && is_name_word name) then option_map (λ position. Info file position name) (known_position (position_of place)) else None
+command_of_four verb file place word =
+    if not (is_file_word file) then None
+    else if bytes_eq verb (codes "info") then info_of file place word
+    else if bytes_eq verb (codes "expand") then option_map (λ position. Expand file position word) (known_position (position_of place))
+    else if bytes_eq verb (codes "once") then option_map (λ position. Once file position word) (known_position (position_of place))
+    else None
 
 -- the command that the words fit
 abbrev pub command_of : List (List ℕ) → Option Command

@@ -1,21 +1,23 @@
 -- The answer that an outcome is, and how an outcome ends.
 use Rattle.std.specs.Prelude.{◌≡◌, ◌⊎◌, ℕ, List, Option, Some, None, Result, Ok, Err}
 use Rattle.macro_query.specs.declared.fault.QueryFault.{QueryFault}
-use Rattle.macro_query.specs.declared.fault.QueryFault.TheVariants.{Elf as QueryElf, Info as QueryInfo, Line as QueryLine, Unit as QueryUnit, NoSuchUnit as QueryNoSuchUnit, Position as QueryPosition, ReportTooLong, NoMemory as QueryRanOut}
+use Rattle.macro_query.specs.declared.fault.QueryFault.TheVariants.{Elf as QueryElf, Info as QueryInfo, Line as QueryLine, Unit as QueryUnit, NoSuchUnit as QueryNoSuchUnit, Position as QueryPosition, Text as QueryText, Expand as QueryExpand, ReportTooLong, NoMemory as QueryRanOut}
 use Rattle.mac_io.specs.Calls.{grown}
 use Rattle.dwmac_run.specs.Answer.{Answer, Prints, Refuses, Misuse}
 use Rattle.dwmac_run.specs.Leaves.{Texts, IsCut, Leaves}
-use Rattle.dwmac_run.specs.Refusals.{refusal_line, long_report_line, fault_line}
+use Rattle.dwmac_run.specs.Refusals.{refusal_line, text_line, expand_line, long_report_line, fault_line}
 use Rattle.dwmac_run.specs.declared.status.Status.{Status}
 use Rattle.dwmac_run.specs.declared.status.Status.TheVariants.{Outside}
 use Rattle.dwmac_run.specs.declared.outcome.Outcome.{Outcome}
-use Rattle.dwmac_run.specs.declared.outcome.Outcome.TheVariants.{Report, Text, Refused, TooLong, Usage, NoMemory, Failed}
+use Rattle.dwmac_run.specs.declared.outcome.Outcome.TheVariants.{Report, Text, Refused, NoTokens, NoExpansion, TooLong, Usage, NoMemory, Failed}
 
 -- the answer, where it isn't that memory ran out or the shelf failed
 abbrev pub answer_of : Outcome → Option Answer
 answer_of (Report text) = Some (Prints text.items)
 answer_of (Text text) = Some (Prints text.now)
 answer_of (Refused file refusal) = Some (Refuses (refusal_line file.now refusal))
+answer_of (NoTokens fault) = Some (Refuses (text_line fault))
+answer_of (NoExpansion fault) = Some (Refuses (expand_line fault))
 answer_of TooLong = Some (Refuses long_report_line)
 answer_of Usage = Some Misuse
 answer_of NoMemory = None
@@ -30,6 +32,8 @@ told_by file (Err (QueryLine fault)) = Some (Refuses (fault_line file (QueryLine
 told_by file (Err QueryNoSuchUnit) = Some (Refuses (fault_line file QueryNoSuchUnit))
 told_by file (Err (QueryPosition fault)) = Some (Refuses (fault_line file (QueryPosition fault)))
 told_by file (Err (QueryUnit fault)) = Some (Refuses (fault_line file (QueryUnit fault)))
+told_by file (Err (QueryText fault)) = Some (Refuses (fault_line file (QueryText fault)))
+told_by file (Err (QueryExpand fault)) = Some (Refuses (fault_line file (QueryExpand fault)))
 told_by file (Err ReportTooLong) = Some (Refuses (fault_line file ReportTooLong))
 told_by file (Err QueryRanOut) = None
 
@@ -38,6 +42,8 @@ abbrev pub HasFailed : Outcome → Type 0
 HasFailed (Report text) = ⊥
 HasFailed (Text text) = ⊥
 HasFailed (Refused file refusal) = ⊥
+HasFailed (NoTokens fault) = ⊥
+HasFailed (NoExpansion fault) = ⊥
 HasFailed TooLong = ⊥
 HasFailed Usage = ⊥
 HasFailed NoMemory = ⊥

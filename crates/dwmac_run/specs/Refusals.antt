@@ -2,7 +2,7 @@
 use Rattle.std.specs.Prelude.{ℕ, List, ◌++◌, codes, decimal}
 use Rattle.macro_query.specs.UnitLines.{hex}
 use Rattle.macro_query.specs.declared.fault.QueryFault.{QueryFault}
-use Rattle.macro_query.specs.declared.fault.QueryFault.TheVariants.{Elf as QueryElf, Info as QueryInfo, Line as QueryLine, Unit as QueryUnit, NoSuchUnit as QueryNoSuchUnit, Position as QueryPosition, ReportTooLong, NoMemory}
+use Rattle.macro_query.specs.declared.fault.QueryFault.TheVariants.{Elf as QueryElf, Info as QueryInfo, Line as QueryLine, Unit as QueryUnit, NoSuchUnit as QueryNoSuchUnit, Position as QueryPosition, Text as QueryText, Expand as QueryExpand, ReportTooLong, NoMemory}
 use Rattle.section_views.specs.declared.fault.ElfFault.{ElfFault}
 use Rattle.section_views.specs.declared.fault.ElfFault.TheVariants.{NotElf, Class, Order, Kind, Extended, Table, Range, Name, Compressed, Twice}
 use Rattle.info_roots.specs.declared.fault.InfoKind.{InfoKind}
@@ -11,6 +11,10 @@ use Rattle.line_names.specs.declared.fault.LineKind.{LineKind}
 use Rattle.line_names.specs.declared.fault.LineKind.TheVariants.{Cut as LineCut, Leb as LineLeb, NoNul as LineNoNul, Length as LineLength, Version as LineVersion, OpcodeBase, NoPath, Form as LineForm, StrRange as LineStrRange, DirIndex, NoMemory as LineNoMemory}
 use Rattle.position_table.specs.declared.fault.PosFault.{PosFault}
 use Rattle.position_table.specs.declared.fault.PosFault.TheVariants.{NoSuchPosition, NoMemory as PosNoMemory}
+use Rattle.pp_tokens.specs.declared.fault.LexFault.{LexFault}
+use Rattle.pp_tokens.specs.declared.fault.LexFault.TheVariants.{NulByte, OpenComment, NoMemory as LexNoMemory}
+use Rattle.macro_expand.specs.declared.fault.ExpandFault.{ExpandFault}
+use Rattle.macro_expand.specs.declared.fault.ExpandFault.TheVariants.{OpenCall, ArgCount, BadPaste, BadString, BadDefinition, LoneQuote, TooLong, NoMemory as ExpandNoMemory}
 use Rattle.unit_header.specs.declared.fault.UnitKind.{UnitKind}
 use Rattle.unit_header.specs.declared.fault.UnitKind.TheVariants.{Version, Flags, Cut, Leb, NoNul, OperandTable, Form, Opcode, StrRange, ImportRange, LineRange, NoStrBase, StrxRange, NoLineTable, FileIndex, ImportCycle, EndWithoutStart, StartWithoutEnd, Supplementary, TooManyEntries}
 use Rattle.dwmac_run.specs.declared.refusal.Refusal.{Refusal}
@@ -102,6 +106,27 @@ words_on (BadUnit fault) = codes "Unit " ++ kind_name fault.what ++ codes " at "
 abbrev pub refusal_line : List ℕ → Refusal → List ℕ
 refusal_line file refusal = codes "dwmac: " ++ file ++ codes ": " ++ words_on refusal ++ codes "\n"
 
+-- the line on a text that has no tokens; no refusal has the last
+abbrev pub text_line : LexFault → List ℕ
+text_line (NulByte line) = codes "dwmac: Text NulByte\n"
+text_line (OpenComment line) = codes "dwmac: Text OpenComment\n"
+text_line LexNoMemory = codes "dwmac: Text NoMemory\n"
+
+-- the words on a text that has no expansion; no refusal has the last
+abbrev pub expand_words : ExpandFault → List ℕ
+expand_words (OpenCall name) = codes "OpenCall " ++ name
+expand_words (ArgCount name got) = codes "ArgCount " ++ name ++ codes " " ++ decimal got
+expand_words (BadPaste left right) = codes "BadPaste " ++ left ++ codes " " ++ right
+expand_words (BadString name) = codes "BadString " ++ name
+expand_words (BadDefinition name) = codes "BadDefinition " ++ name
+expand_words LoneQuote = codes "LoneQuote"
+expand_words TooLong = codes "TooLong"
+expand_words ExpandNoMemory = codes "NoMemory"
+
+-- the line on it
+abbrev pub expand_line : ExpandFault → List ℕ
+expand_line fault = codes "dwmac: Expand " ++ expand_words fault ++ codes "\n"
+
 -- the line on a report that is too long
 abbrev pub long_report_line : List ℕ
 long_report_line = codes "dwmac: ReportTooLong\n"
@@ -118,5 +143,7 @@ fault_line file (QueryLine fault) = refusal_line file (BadLine fault)
 fault_line file (QueryUnit fault) = refusal_line file (BadUnit fault)
 fault_line file QueryNoSuchUnit = refusal_line file NoSuchUnit
 fault_line file (QueryPosition fault) = refusal_line file (Position fault)
+fault_line file (QueryText fault) = text_line fault
+fault_line file (QueryExpand fault) = expand_line fault
 fault_line file ReportTooLong = long_report_line
 fault_line file NoMemory = no_memory_line

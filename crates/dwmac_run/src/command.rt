@@ -21,6 +21,10 @@ pub enum Command<'w> {
     Info(&'w [u8], Position, &'w [u8]),
     /// `list FILE POS`: all definitions at the position.
     List(&'w [u8], Position),
+    /// `expand FILE POS TEXT`: what the text expands to at the position.
+    Expand(&'w [u8], Position, &'w [u8]),
+    /// `once FILE POS TEXT`: a single level of that.
+    Once(&'w [u8], Position, &'w [u8]),
     /// `--help`: how the program is called.
     Help,
     /// `--version`: which program it is.
@@ -37,12 +41,12 @@ pub fn command_of(alloc: Global, words: &[Bytes]) -> Result<Option<Command<'_>>,
         [verb, file, place] => {
             command_of_three(alloc, verb.as_slice(), file.as_slice(), place.as_slice())
         }
-        [verb, file, place, name] => command_of_four(
+        [verb, file, place, word] => command_of_four(
             alloc,
             verb.as_slice(),
             file.as_slice(),
             place.as_slice(),
-            name.as_slice(),
+            word.as_slice(),
         ),
         _ => Ok(None),
     }
@@ -98,11 +102,32 @@ fn command_of_four<'w>(
     verb: &[u8],
     file: &'w [u8],
     place: &[u8],
+    word: &'w [u8],
+) -> Result<Option<Command<'w>>, NoMemory>
+    ensures { IfOk result (λ command. option_map spec.plain command ≡ spec.command_of_four verb.now file.now place.now word.now) }
+{
+    if !is_file_word(file) {
+        Ok(None)
+    } else if verb == b"info".as_slice() {
+        info_of(alloc, file, place, word)
+    } else if verb == b"expand".as_slice() {
+        Ok(expand_at(file, position_of(alloc, place)?, word))
+    } else if verb == b"once".as_slice() {
+        Ok(once_at(file, position_of(alloc, place)?, word))
+    } else {
+        Ok(None)
+    }
+}
+
+fn info_of<'w>(
+    alloc: Global,
+    file: &'w [u8],
+    place: &[u8],
     name: &'w [u8],
 ) -> Result<Option<Command<'w>>, NoMemory>
-    ensures { IfOk result (λ command. option_map spec.plain command ≡ spec.command_of_four verb.now file.now place.now name.now) }
+    ensures { IfOk result (λ command. option_map spec.plain command ≡ spec.info_of file.now place.now name.now) }
 {
-    if verb == b"info".as_slice() && is_file_word(file) && is_name_word(name) {
+    if is_name_word(name) {
         Ok(info_at(file, position_of(alloc, place)?, name))
     } else {
         Ok(None)
@@ -132,6 +157,24 @@ fn info_at<'w>(file: &'w [u8], position: Option<Position>, name: &'w [u8]) -> Op
 {
     match position {
         Some(position) => Some(Command::Info(file, position, name)),
+        None => None,
+    }
+}
+
+fn expand_at<'w>(file: &'w [u8], position: Option<Position>, text: &'w [u8]) -> Option<Command<'w>>
+    ensures { option_map spec.plain result ≡ option_map (λ position. spec.Expand file.now position text.now) position }
+{
+    match position {
+        Some(position) => Some(Command::Expand(file, position, text)),
+        None => None,
+    }
+}
+
+fn once_at<'w>(file: &'w [u8], position: Option<Position>, text: &'w [u8]) -> Option<Command<'w>>
+    ensures { option_map spec.plain result ≡ option_map (λ position. spec.Once file.now position text.now) position }
+{
+    match position {
+        Some(position) => Some(Command::Once(file, position, text)),
         None => None,
     }
 }

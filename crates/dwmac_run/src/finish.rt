@@ -2,15 +2,16 @@ ghost use Rattle.std.specs.Prelude.{◌≡◌, ◌≤◌, ◌≢◌, ◌⊎◌};
 ghost use Rattle.mac_io.specs.Causes.{Rose};
 ghost use Rattle.mac_io.specs.Calls.{GrowsByFront};
 ghost use Rattle.dwmac_run.specs.Leaves.{outside_line};
-ghost use Rattle.dwmac_run.specs.Refusals.{refusal_line};
+ghost use Rattle.dwmac_run.specs.Refusals.{refusal_line, expand_line};
 ghost use Rattle.dwmac_run.specs.Outcome.{answer_of, Ends, EndsSaying, HasFailed};
 
 use crate::outcome::Outcome;
-use crate::printing::{write_lines, write_refusal};
-use crate::refusal::Refusal;
+use crate::printing::{write_fields, write_lines, write_refusal};
+use crate::refusal::{Refusal, expand_fields, text_line};
 use crate::status::Status;
 use itoa::Buffer;
 use mac_io::{Sink, Wrote};
+use macro_expand::ExpandFault;
 
 /// Prints an outcome, and says how the run ends.
 pub fn finish<O: Sink, E: Sink>(outcome: Outcome<'_>, out: &mut O, err: &mut E) -> Status
@@ -31,6 +32,8 @@ pub fn finish<O: Sink, E: Sink>(outcome: Outcome<'_>, out: &mut O, err: &mut E) 
             Wrote::Failed => outside(err),
         },
         Outcome::Refused(file, refusal) => refuse(err, file, refusal),
+        Outcome::NoTokens(fault) => say(err, text_line(fault), Status::Refused),
+        Outcome::NoExpansion(fault) => refuse_expansion(err, &fault),
         Outcome::TooLong => say(err, b"dwmac: ReportTooLong\n", Status::Refused),
         Outcome::Usage => say(err, b"dwmac: usage\n", Status::Usage),
         Outcome::NoMemory => say(err, b"dwmac: no memory\n", Status::NoMemory),
@@ -49,6 +52,20 @@ fn refuse<E: Sink>(err: &mut E, file: &[u8], refusal: Refusal) -> Status
     let mut decimal = Buffer::new();
     let digits = number.digits(&mut hexadecimal, &mut decimal);
     match write_refusal(err, file, words, digits) {
+        Wrote::Done => Status::Refused,
+        Wrote::Failed => outside(err),
+    }
+}
+
+/// Prints the line on a text that has no expansion.
+fn refuse_expansion<E: Sink>(err: &mut E, fault: &ExpandFault) -> Status
+    ensures said { EndsSaying (expand_line fault.now) Status.Refused result (E.text err.old) (E.text err.new) }
+    ensures later { E.count err.old ≤ E.count err.new }
+    ensures cause { result ≡ Status.Outside → Rose (E.count err.old) (E.count err.new) }
+{
+    let mut decimal = Buffer::new();
+    let fields = expand_fields(fault, &mut decimal);
+    match write_fields(err, fields) {
         Wrote::Done => Status::Refused,
         Wrote::Failed => outside(err),
     }

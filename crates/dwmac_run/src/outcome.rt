@@ -1,4 +1,6 @@
 use crate::refusal::Refusal;
+use macro_expand::ExpandFault;
+use pp_tokens::LexFault;
 
 /// What a command came to, before it is printed.
 #[derive(Drop)]
@@ -9,6 +11,10 @@ pub enum Outcome<'w> {
     Text(&'static [u8]),
     /// This file is refused.
     Refused(&'w [u8], Refusal),
+    /// The text that is to be expanded has no tokens.
+    NoTokens(LexFault),
+    /// It has no expansion.
+    NoExpansion(ExpandFault),
     /// The report has more bytes than are printed.
     TooLong,
     /// The words fit no command.

@@ -1,7 +1,7 @@
 ghost use Rattle.std.specs.Prelude.{◌≡◌, ◌≤◌, Some, IfSome, IfOk, IfErr, IsErrAnd, length};
 ghost use Rattle.mac_io.specs.Causes.{HasCause};
 ghost use Rattle.mac_io.specs.Files.{IsFileAt};
-ghost use Rattle.macro_query.specs.Queries.{RawSays, UnitAtSays, DumpSays, InfoSays, ListSays};
+ghost use Rattle.macro_query.specs.Queries.{RawSays, UnitAtSays, DumpSays, InfoSays, ListSays, ExpandSays, OnceSays};
 ghost use Rattle.dwmac_run.specs.Command as spec;
 ghost use Rattle.dwmac_run.specs.Answer.{IsAnswer, AnswerTo, IsNoFile, AboutFile, most_bytes};
 ghost use Rattle.dwmac_run.specs.Outcome.{answer_of, told_by, HasFailed};
@@ -46,6 +46,8 @@ fn obey<'w, S: Shelf>(alloc: Global, command: Command<'w>, shelf: &mut S) -> Out
         Command::Dump(file) => dump(alloc, file, shelf),
         Command::Info(file, position, name) => info(alloc, file, &position, name, shelf),
         Command::List(file, position) => list(alloc, file, &position, shelf),
+        Command::Expand(file, position, text) => expand(alloc, file, &position, text, shelf),
+        Command::Once(file, position, text) => once(alloc, file, &position, text, shelf),
     }
 }
 
@@ -123,6 +125,48 @@ fn list<'w, S: Shelf>(
     }
 }
 
+/// `expand`: what a text expands to at a position in a file.
+fn expand<'w, S: Shelf>(
+    alloc: Global,
+    file: &'w [u8],
+    position: &Position,
+    text: &[u8],
+    shelf: &mut S,
+) -> Outcome<'w>
+    ensures answer { IfSome (answer_of result) (AboutFile (S.files shelf.old) file.now (ExpandSays position.now text.now)) }
+    ensures same { S.files shelf.new ≡ S.files shelf.old }
+    ensures cause { HasCause (S.count shelf.old) (S.count shelf.new) (HasFailed result) }
+{
+    match fetch(alloc, file, shelf) {
+        Ok(bytes) => outcome_of(
+            file,
+            macro_query::expand_at(alloc, bytes.as_slice(), position, text),
+        ),
+        Err(outcome) => outcome,
+    }
+}
+
+/// `once`: a single level of that.
+fn once<'w, S: Shelf>(
+    alloc: Global,
+    file: &'w [u8],
+    position: &Position,
+    text: &[u8],
+    shelf: &mut S,
+) -> Outcome<'w>
+    ensures answer { IfSome (answer_of result) (AboutFile (S.files shelf.old) file.now (OnceSays position.now text.now)) }
+    ensures same { S.files shelf.new ≡ S.files shelf.old }
+    ensures cause { HasCause (S.count shelf.old) (S.count shelf.new) (HasFailed result) }
+{
+    match fetch(alloc, file, shelf) {
+        Ok(bytes) => outcome_of(
+            file,
+            macro_query::once_at(alloc, bytes.as_slice(), position, text),
+        ),
+        Err(outcome) => outcome,
+    }
+}
+
 /// The bytes of a file, or why there are none.
 fn fetch<'w, S: Shelf>(alloc: Global, file: &'w [u8], shelf: &mut S) -> Result<Vec<u8>, Outcome<'w>>
     ensures found { IfOk result (λ bytes. IsFileAt (S.files shelf.old) file.now (Some bytes.items) × (length bytes.items ≤ most_bytes)) }
@@ -153,6 +197,8 @@ fn outcome_of(file: &[u8], said: Result<Bytes, QueryFault>) -> Outcome<'_>
         Err(QueryFault::Unit(fault)) => Outcome::Refused(file, Refusal::Unit(fault)),
         Err(QueryFault::NoSuchUnit) => Outcome::Refused(file, Refusal::NoSuchUnit),
         Err(QueryFault::Position(fault)) => Outcome::Refused(file, Refusal::Position(fault)),
+        Err(QueryFault::Text(fault)) => Outcome::NoTokens(fault),
+        Err(QueryFault::Expand(fault)) => Outcome::NoExpansion(fault),
         Err(QueryFault::ReportTooLong) => Outcome::TooLong,
         Err(QueryFault::NoMemory) => Outcome::NoMemory,
     }

@@ -1,7 +1,9 @@
 ghost use Rattle.std.specs.Prelude.{◌≡◌, ◌≤◌, ◌<◌, ◌++◌, length, codes};
 ghost use Rattle.mac_io.specs.Causes.{HasCause};
 ghost use Rattle.mac_io.specs.Calls.{Writes};
+ghost use Rattle.dwmac_run.specs.Numbers.{fields_line};
 
+use crate::refusal::Fields;
 use mac_io::{Sink, Wrote};
 use memchr::memchr;
 
@@ -40,6 +42,17 @@ pub fn write_refusal<E: Sink>(err: &mut E, file: &[u8], words: &[u8], digits: &[
 {
     match write_parts(err, b"dwmac: ", file, b": ") {
         Wrote::Done => write_parts(err, words, digits, b"\n"),
+        Wrote::Failed => Wrote::Failed,
+    }
+}
+
+/// Writes a line of its words, two fields and what stands between them.
+pub fn write_fields<E: Sink>(err: &mut E, fields: Fields<'_>) -> Wrote
+    ensures answer { Writes (E.text err.old) (E.text err.new) (fields_line fields.entry) result }
+    ensures cause { HasCause (E.count err.old) (E.count err.new) (result ≡ Wrote.Failed) }
+{
+    match write_parts(err, fields.words, fields.first, fields.gap) {
+        Wrote::Done => write_two(err, fields.second, b"\n"),
         Wrote::Failed => Wrote::Failed,
     }
 }

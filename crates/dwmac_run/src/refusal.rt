@@ -1,12 +1,15 @@
 ghost use Rattle.std.specs.Prelude.{◌≡◌, ◌++◌, ℕ, List, codes};
-ghost use Rattle.dwmac_run.specs.Refusals.{elf_words, info_name, line_name, kind_name, position_words};
-ghost use Rattle.dwmac_run.specs.Numbers.{number_text};
+ghost use Rattle.dwmac_run.specs.Refusals as spec;
+ghost use Rattle.dwmac_run.specs.Refusals.{elf_words, info_name, line_name, kind_name, position_words, expand_line};
+ghost use Rattle.dwmac_run.specs.Numbers.{number_text, fields_line};
 
 use info_roots::{InfoFault, InfoKind};
 use itoa::Buffer;
 use line_names::{LineFault, LineKind};
+use macro_expand::ExpandFault;
 use macro_query::hex_digits;
 use position_table::PosFault;
+use pp_tokens::LexFault;
 use section_views::ElfFault;
 use unit_header::{UnitFault, UnitKind};
 
@@ -29,6 +32,15 @@ pub enum Refusal {
     NoSuchUnit,
     /// Its root has no such position.
     Position(PosFault),
+}
+
+/// The words of a line on a text, two fields behind them, and what stands between the two.
+#[derive(Clone, Copy)]
+pub struct Fields<'f> {
+    pub words: &'static [u8],
+    pub first: &'f [u8],
+    pub gap: &'static [u8],
+    pub second: &'f [u8],
 }
 
 /// A number at the end of a line.
@@ -121,6 +133,57 @@ fn position_words(fault: PosFault) -> (&'static [u8], Number)
     match fault {
         PosFault::NoSuchPosition { depth } => (b"NoSuchPosition depth ", Number::Decimal(depth)),
         PosFault::NoMemory => (b"NoMemory", Number::None),
+    }
+}
+
+/// The line on a text that has no tokens.
+pub fn text_line(fault: LexFault) -> &'static [u8]
+    ensures { result.now ≡ spec.text_line fault }
+{
+    match fault {
+        LexFault::NulByte { .. } => b"dwmac: Text NulByte\n",
+        LexFault::OpenComment { .. } => b"dwmac: Text OpenComment\n",
+        LexFault::NoMemory => b"dwmac: Text NoMemory\n",
+    }
+}
+
+/// The line on a text that has no expansion, as fields. The digits of a number stand in this room.
+pub fn expand_fields<'f>(fault: &'f ExpandFault, room: &'f mut Buffer) -> Fields<'f>
+    ensures { fields_line result ≡ expand_line fault.now }
+{
+    match fault {
+        ExpandFault::OpenCall { name } => one_field(b"dwmac: Expand OpenCall ", name.as_slice()),
+        ExpandFault::ArgCount { name, got } => Fields {
+            words: b"dwmac: Expand ArgCount ",
+            first: name.as_slice(),
+            gap: b" ",
+            second: room.format(*got).as_bytes(),
+        },
+        ExpandFault::BadPaste { left, right } => Fields {
+            words: b"dwmac: Expand BadPaste ",
+            first: left.as_slice(),
+            gap: b" ",
+            second: right.as_slice(),
+        },
+        ExpandFault::BadString { name } => one_field(b"dwmac: Expand BadString ", name.as_slice()),
+        ExpandFault::BadDefinition { name } => {
+            one_field(b"dwmac: Expand BadDefinition ", name.as_slice())
+        }
+        ExpandFault::LoneQuote => one_field(b"dwmac: Expand LoneQuote", &[]),
+        ExpandFault::TooLong => one_field(b"dwmac: Expand TooLong", &[]),
+        ExpandFault::NoMemory => one_field(b"dwmac: Expand NoMemory", &[]),
+    }
+}
+
+/// Words with one field behind them.
+fn one_field<'f>(words: &'static [u8], first: &'f [u8]) -> Fields<'f>
+    ensures { fields_line result ≡ words.now ++ first.now ++ codes "\n" }
+{
+    Fields {
+        words,
+        first,
+        gap: &[],
+        second: &[],
     }
 }
 

@@ -12,7 +12,7 @@ use Rattle.macro_table.proofs.FileTableLemmas.{table_has_last_word}
 use Rattle.macro_table.proofs.RenamedLemmas.{same_prefix, same_definition}
 use Rattle.import_graph.specs.Numbers.{path_in}
 use Rattle.import_graph.specs.Graph.{named}
-use Rattle.macro_query.specs.Tables.{IsNamed}
+use Rattle.macro_query.specs.Scopes.{IsNamed}
 
 abbrev order : List ℕ → List ℕ → Ordering
 order = slice_cmp nat_cmp

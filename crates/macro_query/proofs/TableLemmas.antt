@@ -12,20 +12,26 @@ use Rattle.import_graph.specs.Numbers.{path_in}
 use Rattle.macro_query.specs.declared.fault.QueryFault.{QueryFault}
 use Rattle.macro_query.specs.declared.fault.QueryFault.TheVariants.{NoMemory as RanOut}
 use Rattle.macro_query.specs.Limits.{Answers, Tells, limited}
-use Rattle.macro_query.specs.Tables.{IsNamed, info_by, info_text, list_line, list_text, innermost, included_at, inclusions, defined_at, define_line, named_frame, found_text}
-use Rattle.macro_query.proofs.QueryLemmas.{Said, handed_on}
-use Rattle.macro_query.proofs.PositionLemmas.{Tell, Holds, Fails}
+use Rattle.position_table.specs.declared.position.Position.{Position}
+use Rattle.macro_query.specs.Scopes.{Scope, IsNamed}
+use Rattle.macro_query.specs.Queries.{LeadsTo, ScopeSays}
+use Rattle.macro_query.specs.Tables.{info_by, info_text, list_line, list_text, innermost, included_at, inclusions, defined_at, define_line, named_frame, found_text}
+use Rattle.macro_query.proofs.QueryLemmas.{Said, handed_on, answers_by}
+use Rattle.macro_query.proofs.PositionLemmas.{Fails}
+
+-- a position that leads to a fault
+pub scope_fails : (result : Said) (Says : Scope → Said → Type 0) (p : Position) (file : List ℕ) (fault : QueryFault) → Fails (LeadsTo p file) fault → IsErrAnd result (λ found. found ≡ fault) → Answers result (ScopeSays Says p file)
+scope_fails result Says p file fault (inl ran) is = inl (handed_on result fault is ∙ ap Err ran)
+scope_fails result Says p file fault (inr leads) is = inr (Err fault, (Err fault, leads, refl), handed_on result fault is)
+
+-- a position that leads to a scope
+pub scope_says : (result : Said) (Says : Scope → Said → Type 0) (p : Position) (file : List ℕ) (scope : Scope) → LeadsTo p file (Ok scope) → Answers result (Says scope) → Answers result (ScopeSays Says p file)
+scope_says result Says p file scope leads answer = answers_by result (Says scope) (ScopeSays Says p file) answer (λ said says. (Ok scope, leads, says))
 
 -- a text of the table that was found
-pub answers_table : (result : Said) (paths : List (List ℕ)) (numbers : TableOf ℕ) (Says : Tell → Said → Type 0) (tell : Tell) (text : List ℕ) → Holds paths numbers Says →
-    ((table : TableOf (List ℕ)) → IsNamed paths numbers table → tell table ≡ text) → (result ≡ Err RanOut) ⊎ (result ≡ limited text) → Answers result (Says tell)
-answers_table result paths numbers Says tell text holds same (inl ran) = inl ran
-answers_table result paths numbers Says tell text holds same (inr is) = inr (Ok (tell holds.0), holds.2 tell, is ∙ ap limited (sym (same holds.0 holds.1)))
-
--- no table was found
-pub answers_fault : (result : Said) (Says : Tell → Said → Type 0) (tell : Tell) (fault : QueryFault) → Fails Says fault → IsErrAnd result (λ found. found ≡ fault) → Answers result (Says tell)
-answers_fault result Says tell fault (inl ran) is = inl (handed_on result fault is ∙ ap Err ran)
-answers_fault result Says tell fault (inr says) is = inr (Err fault, says tell, handed_on result fault is)
+pub text_says : (result : Said) (text whole : List ℕ) → whole ≡ text → (result ≡ Err RanOut) ⊎ (result ≡ limited text) → Answers result (λ said. said ≡ Ok whole)
+text_says result text whole same (inl ran) = inl ran
+text_says result text whole same (inr is) = inr (Ok whole, refl, is ∙ ap limited (sym same))
 
 pub same_info : (paths : List (List ℕ)) (numbers : TableOf ℕ) (name : List ℕ) (table : TableOf (List ℕ)) → IsNamed paths numbers table → info_text name table ≡ info_by name (option_map (renamed_value (path_in paths)) (finite.get numbers name))
 same_info paths numbers name table is = ap (info_by name) (is.1 name)

@@ -3,6 +3,8 @@ pub mod Unit
 pub mod Limits
 pub mod Faults
 pub mod Roots
+pub mod Scopes
 pub mod Tables
+pub mod Expansions
 pub mod Queries
 pub mod Laws

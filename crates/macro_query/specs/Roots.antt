@@ -27,12 +27,12 @@ RootSays s root (Ok items) = RootSplice s root items × HasNoFault s root × (le
 RootSays s root (Err fault) = IsFirstFault s root fault
 
 -- what the list of roots says, or the fault of `.debug_info`
-abbrev pub ByRoots : Result (List Root) InfoFault → (List Root → Result (List ℕ) QueryFault → Type 0) → Result (List ℕ) QueryFault → Type 0
+abbrev pub ByRoots : {A : Type 0} → Result (List Root) InfoFault → (List Root → Result A QueryFault → Type 0) → Result A QueryFault → Type 0
 ByRoots (Ok roots) Says said = Says roots said
 ByRoots (Err fault) Says said = said ≡ Err (Info fault)
 
 -- the same of sections
-abbrev pub RootsSay : (SectionBytes → List Root → Result (List ℕ) QueryFault → Type 0) → SectionBytes → Result (List ℕ) QueryFault → Type 0
+abbrev pub RootsSay : {A : Type 0} → (SectionBytes → List Root → Result A QueryFault → Type 0) → SectionBytes → Result A QueryFault → Type 0
 RootsSay Says s said = ByRoots (roots_in s) (Says s) said
 
 -- the line of an entry

@@ -1,20 +1,22 @@
 ghost use Rattle.std.specs.Prelude.{◌≡◌};
 ghost use Rattle.macro_query.specs.Roots.{file_fault};
-ghost use Rattle.macro_query.specs.Faults.{info_fault, pos_fault};
+ghost use Rattle.macro_query.specs.Faults.{info_fault, pos_fault, text_fault, expand_fault};
 ghost use Rattle.macro_query.specs.declared.fault.QueryFault.TheVariants.{Elf as BadElf, Unit as BadUnit, NoMemory as RanOut};
 
 use import_graph::FileFault;
 use info_roots::{InfoFault, InfoKind};
 use line_names::LineFault;
 use mac_base::NoMemory;
+use macro_expand::ExpandFault;
 use position_table::PosFault;
+use pp_tokens::LexFault;
 use section_views::ElfFault;
 use std::alloc::AllocFailed;
 use thiserror::Error;
 use unit_header::UnitFault;
 
 /// Why a query about a file has no report.
-#[derive(Debug, Drop, PartialEq, Eq, Error)]
+#[derive(Debug, Drop, Error)]
 pub enum QueryFault {
     /// The first fault of the file's headers or sections.
     #[error("{0}")]
@@ -34,6 +36,12 @@ pub enum QueryFault {
     /// The root has no such position.
     #[error("{0}")]
     Position(PosFault),
+    /// The text that is to be expanded has no tokens.
+    #[error("{0}")]
+    Text(LexFault),
+    /// The text has no expansion.
+    #[error("{0}")]
+    Expand(ExpandFault),
     /// There is no fault, and the report has more than 1,073,741,824 bytes.
     #[error("the report is too long")]
     ReportTooLong,
@@ -80,6 +88,29 @@ impl From<PosFault> for QueryFault {
         match fault {
             PosFault::NoMemory => QueryFault::NoMemory,
             PosFault::NoSuchPosition { .. } => QueryFault::Position(fault),
+        }
+    }
+}
+
+impl From<LexFault> for QueryFault {
+    ghost from_gives = { λ fault found. found ≡ text_fault fault };
+
+    fn from(fault: LexFault) -> QueryFault {
+        match fault {
+            LexFault::NoMemory => QueryFault::NoMemory,
+            LexFault::NulByte { .. } => QueryFault::Text(fault),
+            LexFault::OpenComment { .. } => QueryFault::Text(fault),
+        }
+    }
+}
+
+impl From<ExpandFault> for QueryFault {
+    ghost from_gives = { λ fault found. found ≡ expand_fault fault };
+
+    fn from(fault: ExpandFault) -> QueryFault {
+        match fault {
+            ExpandFault::NoMemory => QueryFault::NoMemory,
+            fault => QueryFault::Expand(fault),
         }
     }
 }

@@ -2,6 +2,7 @@
 #![tactic(auto)]
 
 mod dump_report;
+mod expansion_report;
 mod fault;
 mod hexadecimal;
 mod laws;
@@ -16,6 +17,7 @@ mod unit_lines;
 mod unit_report;
 
 pub use dump_report::dump;
+pub use expansion_report::{expand_at, once_at};
 pub use fault::QueryFault;
 pub use hexadecimal::hex_digits;
 pub use laws::queries_have_one_answer;

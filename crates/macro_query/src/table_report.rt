@@ -1,24 +1,20 @@
 ghost use Rattle.std.specs.Prelude.{◌≡◌, ◌⊎◌, ◌++◌, List, ℕ, codes, decimal, map, OnOk, Err};
 ghost use Rattle.std.specs.Option.{option_map, option_copied};
 ghost use Rattle.std.specs.FinMap as finite;
-ghost use Rattle.mac_base.specs.SectionBytes.{bytes_of};
 ghost use Rattle.macro_table.specs.Tables.{entry_value, renamed_value};
 ghost use Rattle.import_graph.specs.Numbers.{path_in};
 ghost use Rattle.macro_query.specs.declared.fault.QueryFault.TheVariants.{NoMemory as RanOut};
 ghost use Rattle.macro_query.specs.Limits.{Answers, Tells, limited};
-ghost use Rattle.macro_query.specs.Roots.{RootsSay};
-ghost use Rattle.macro_query.specs.Tables.{PositionSays, info_by, info_text, list_line, list_text, define_line, innermost, inclusions, named_frame, found_text};
+ghost use Rattle.macro_query.specs.Tables.{info_by, list_line, list_text, define_line, innermost, inclusions, named_frame, found_text};
 ghost use Rattle.macro_query.specs.Queries.{InfoSays, ListSays};
 
 use crate::fault::QueryFault;
 use crate::pieces::{push_bytes, push_decimal};
 use crate::position::find;
-use crate::roots::{path_of, roots_of};
-use crate::sections::sections_of;
+use crate::roots::path_of;
 use crate::telling::Telling;
 use import_graph::Graph;
-use info_roots::Root;
-use mac_base::{Bytes, Frame, NoMemory, Sections};
+use mac_base::{Bytes, Frame, NoMemory};
 use macro_table::{Entry, Table};
 use position_table::Position;
 use std::alloc::Global;
@@ -34,34 +30,7 @@ pub fn info(
 ) -> Result<Bytes, QueryFault>
     ensures { Answers result (InfoSays position.now name.now file.now) }
 {
-    let s = sections_of(file)?;
-    info_in(alloc, &s, position, name)
-}
-
-/// The same of these sections.
-fn info_in(
-    alloc: Global,
-    s: &Sections<'_>,
-    position: &Position,
-    name: &[u8],
-) -> Result<Bytes, QueryFault>
-    ensures { Answers result (RootsSay (PositionSays (info_text name.now) position.now) (bytes_of s.now)) }
-{
-    let roots = roots_of(alloc, s)?;
-    info_at(alloc, s, roots.as_slice(), position, name)
-}
-
-/// The same among these roots.
-fn info_at(
-    alloc: Global,
-    s: &Sections<'_>,
-    roots: &[Root],
-    position: &Position,
-    name: &[u8],
-) -> Result<Bytes, QueryFault>
-    ensures { Answers result (PositionSays (info_text name.now) position.now (bytes_of s.now) roots.now) }
-{
-    let found = find(alloc, s, roots, position)?;
+    let found = find(alloc, file, position)?;
     info_of(alloc, &found.graph, &found.table, name)
 }
 
@@ -85,28 +54,7 @@ fn info_of(
 pub fn list(alloc: Global, file: &[u8], position: &Position) -> Result<Bytes, QueryFault>
     ensures { Answers result (ListSays position.now file.now) }
 {
-    let s = sections_of(file)?;
-    list_in(alloc, &s, position)
-}
-
-/// The same of these sections.
-fn list_in(alloc: Global, s: &Sections<'_>, position: &Position) -> Result<Bytes, QueryFault>
-    ensures { Answers result (RootsSay (PositionSays list_text position.now) (bytes_of s.now)) }
-{
-    let roots = roots_of(alloc, s)?;
-    list_at(alloc, s, roots.as_slice(), position)
-}
-
-/// The same among these roots.
-fn list_at(
-    alloc: Global,
-    s: &Sections<'_>,
-    roots: &[Root],
-    position: &Position,
-) -> Result<Bytes, QueryFault>
-    ensures { Answers result (PositionSays list_text position.now (bytes_of s.now) roots.now) }
-{
-    let found = find(alloc, s, roots, position)?;
+    let found = find(alloc, file, position)?;
     list_of(alloc, &found.table)
 }
 

@@ -1,39 +1,23 @@
-use Rattle.std.proofs.Common.{◌≡◌, Some, None, inr, sym}
-use Rattle.std.specs.Prelude.{slice_get}
 use Rattle.mac_base.specs.SectionBytes.{bytes_of}
-use Rattle.macro_query.proofs.PositionLemmas.{Chain, NamedAt, At, chain_at, named_at, unit_missing, ok_more, err_more, holds_more}
+use Rattle.macro_query.specs.Roots.{RootsSay}
+use Rattle.macro_query.specs.Scopes.{PositionLeads}
+use Rattle.macro_query.specs.Queries.{LeadsTo}
+use Rattle.macro_query.proofs.QueryLemmas.{sections_pass, sections_fail}
+use Rattle.macro_query.proofs.PositionLemmas.{Fails, err_by, ok_more, err_more, finds_more}
 use Rattle.macro_query.proofs.position.find.Goals as goal
-use Rattle.macro_query.proofs.position.find.Goals.{After-find_chain, In-None}
 
-there : (c : After-find_chain) → slice_get c.args.roots.now c.in-Chain.unit ≡ Some c.in-Some.root.now
-there c = sym c.in-Some.ensures
+pub returns-in_err-s-clause-err : goal.returns-in_err-s-clause-err
+returns-in_err-s-clause-err c =
+    err_by _ _ (Fails (LeadsTo c.args.position.now c.args.file.now)) c.from_residual.ensures.1 (sections_fail (RootsSay (PositionLeads c.args.position.now)) c.args.file.now _ c.in_err-s.ensures.err)
 
-pub returns-in-Some-clause-ok : goal.returns-in-Some-clause-ok
-returns-in-Some-clause-ok c =
-    let s = bytes_of c.args.s.now in
-    ok_more c.find_chain.result _ _ (λ found. holds_more found.graph.paths found.table (Chain s c.in-Some.root.now c.as_slice.result.now c.in-Chain.line) (At s c.args.roots.now c.args.position.now)
-    (chain_at s c.args.roots.now c.in-Some.root.now c.args.position.now c.in-Chain.unit c.in-Chain.line c.in-Chain.lines c.as_slice.result.now c.in-Chain.is (there c) c.as_slice.ensures)) c.find_chain.ensures.ok
+pub returns-clause-ok : goal.returns-clause-ok
+returns-clause-ok c =
+    let leads = RootsSay (PositionLeads c.args.position.now) in
+    ok_more c.find_in.result _ _ (λ found. finds_more found.graph found.spot found.table (leads (bytes_of c.in_ok-s.s)) (LeadsTo c.args.position.now c.args.file.now)
+    (sections_pass leads c.args.file.now (bytes_of c.in_ok-s.s) c.in_ok-s.ensures.ok)) c.find_in.ensures.ok
 
-pub returns-in-Some-clause-err : goal.returns-in-Some-clause-err
-returns-in-Some-clause-err c =
-    let s = bytes_of c.args.s.now in
-    err_more c.find_chain.result (Chain s c.in-Some.root.now c.as_slice.result.now c.in-Chain.line) (At s c.args.roots.now c.args.position.now)
-    (chain_at s c.args.roots.now c.in-Some.root.now c.args.position.now c.in-Chain.unit c.in-Chain.line c.in-Chain.lines c.as_slice.result.now c.in-Chain.is (there c) c.as_slice.ensures) c.find_chain.ensures.err
-
-missing : (c : In-None) → slice_get c.args.roots.now c.in-Chain.unit ≡ None
-missing c = sym c.in-None.ensures
-
-pub returns-in-None-clause-err : goal.returns-in-None-clause-err
-returns-in-None-clause-err c = inr (unit_missing (bytes_of c.args.s.now) c.args.roots.now c.args.position.now c.in-Chain.unit c.in-Chain.line c.in-Chain.lines c.in-Chain.is (missing c))
-
-pub returns-in-Named-clause-ok : goal.returns-in-Named-clause-ok
-returns-in-Named-clause-ok c =
-    let s = bytes_of c.args.s.now in
-    ok_more c.find_named.result _ _ (λ found. holds_more found.graph.paths found.table (NamedAt s c.as_slice-in-Named.result.now c.in-Named.line c.args.roots.now) (At s c.args.roots.now c.args.position.now)
-    (named_at s c.args.roots.now c.args.position.now c.in-Named.line c.in-Named.path c.as_slice-in-Named.result.now c.in-Named.is c.as_slice-in-Named.ensures)) c.find_named.ensures.ok
-
-pub returns-in-Named-clause-err : goal.returns-in-Named-clause-err
-returns-in-Named-clause-err c =
-    let s = bytes_of c.args.s.now in
-    err_more c.find_named.result (NamedAt s c.as_slice-in-Named.result.now c.in-Named.line c.args.roots.now) (At s c.args.roots.now c.args.position.now)
-    (named_at s c.args.roots.now c.args.position.now c.in-Named.line c.in-Named.path c.as_slice-in-Named.result.now c.in-Named.is c.as_slice-in-Named.ensures) c.find_named.ensures.err
+pub returns-clause-err : goal.returns-clause-err
+returns-clause-err c =
+    let leads = RootsSay (PositionLeads c.args.position.now) in
+    err_more c.find_in.result (leads (bytes_of c.in_ok-s.s)) (LeadsTo c.args.position.now c.args.file.now)
+    (sections_pass leads c.args.file.now (bytes_of c.in_ok-s.s) c.in_ok-s.ensures.ok) c.find_in.ensures.err

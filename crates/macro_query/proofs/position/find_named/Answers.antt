@@ -1,8 +1,9 @@
-use Rattle.std.proofs.Common.{◌∷◌, List, subst, sym, ◌∙◌, inr}
+use Rattle.std.proofs.Common.{◌∷◌, List, refl, subst, sym, ◌∙◌, inr}
 use Rattle.info_roots.specs.declared.root.Root.{Root}
 use Rattle.mac_base.specs.SectionBytes.{bytes_of}
+use Rattle.macro_query.specs.Scopes.{NamedLeads}
 use Rattle.macro_query.proofs.DumpLemmas.{none_left}
-use Rattle.macro_query.proofs.PositionLemmas.{NamedAt, Fails, Passes, err_by, named_found, named_next, named_fails, named_missing}
+use Rattle.macro_query.proofs.PositionLemmas.{Fails, Passes, err_by, named_found, named_next, named_fails, named_missing}
 use Rattle.macro_query.proofs.position.find_named.Goals as goal
 use Rattle.macro_query.proofs.position.find_named.Goals.{In-Some}
 
@@ -12,13 +13,13 @@ passes c = subst (λ (left : List Root). Passes (bytes_of c.args.s.now) c.args.p
 pub returns-in_err-graph-clause-err : goal.returns-in_err-graph-clause-err
 returns-in_err-graph-clause-err c =
     let s = bytes_of c.args.s.now in
-    err_by _ _ (Fails (NamedAt s c.args.path.now c.args.line c.args.roots.now)) c.from_residual.ensures.1
+    err_by _ _ (Fails (NamedLeads c.args.path.now c.args.line s c.args.roots.now)) c.from_residual.ensures.1
     (named_fails s c.args.path.now c.args.line c.args.roots.now c.in-Some.root.now c.in-Some.behind.now _ (passes (goal.at.returns-in_err-graph-clause-err c).In-Some) c.in_err-graph.ensures.err)
 
 pub returns-in-Some-2-clause-ok : goal.returns-in-Some-2-clause-ok
 returns-in-Some-2-clause-ok c =
-    named_found (bytes_of c.args.s.now) c.args.path.now c.args.line c.args.roots.now c.in-Some.root.now c.in-Some.behind.now c.in_ok-graph.graph c.in-Some-2.start c.in_ok-table.table
-    (passes (goal.at.returns-in-Some-2-clause-ok c).In-Some) c.in_ok-graph.ensures.ok (sym c.in_ok-start.ensures ∙ c.in-Some-2.is) c.in_ok-table.ensures
+    named_found (bytes_of c.args.s.now) c.args.path.now c.args.line c.args.roots.now c.in-Some.root.now c.in-Some.behind.now c.in_ok-graph.graph (record { start = c.in-Some-2.start; line = c.args.line }) c.in_ok-table.table
+    (passes (goal.at.returns-in-Some-2-clause-ok c).In-Some) c.in_ok-graph.ensures.ok (sym c.in_ok-start.ensures ∙ c.in-Some-2.is) refl c.in_ok-table.ensures
 
 pub loop-root-preserved : goal.loop-root-preserved
 loop-root-preserved c =

@@ -1,0 +1,14 @@
+use Rattle.macro_expand.specs.Rules.{ExpandsOnceTo}
+use Rattle.macro_query.specs.Expansions.{TextSays}
+use Rattle.macro_query.proofs.TableLemmas.{scope_fails, scope_says}
+use Rattle.macro_query.proofs.ExpansionLemmas.{in_scope}
+use Rattle.macro_query.proofs.expansion_report.once_at.Goals as goal
+
+pub returns-in_err-found : goal.returns-in_err-found
+returns-in_err-found c = scope_fails c.from_residual.result (TextSays ExpandsOnceTo c.args.text.now) c.args.position.now c.args.file.now _ c.in_err-found.ensures.err c.from_residual.ensures.1
+
+pub returns : goal.returns
+returns c =
+    let found = c.in_ok-found.ensures.ok in
+    scope_says c.once_text.result (TextSays ExpandsOnceTo c.args.text.now) c.args.position.now c.args.file.now found.0 found.2
+    (in_scope c.once_text.result ExpandsOnceTo c.args.text.now c.in_ok-found.found.graph c.in_ok-found.found.spot c.in_ok-found.found.table c.in_ok-here.here found.0 found.1 c.in_ok-here.ensures c.once_text.ensures)
