@@ -1,0 +1,10 @@
+use Rattle.std.proofs.Common.{◌≡◌, subst, Ok}
+use Rattle.macro_table.specs.Items.{Define}
+use Rattle.pp_unit.specs.Seen.{Seen, added}
+use Rattle.pp_unit.proofs.DefiningLemmas.{predefined_is}
+use Rattle.pp_unit.proofs.defining.predefine.Goals as goal
+
+pub returns : goal.returns
+returns c =
+    predefined_is c.in_ok-first.first c.in_ok-second.second c.in_ok-third.third c.in_ok-text.field-0 c.in_ok-text-2.field-0 c.in_ok-text-3.field-0 c.in_ok-text.ensures c.in_ok-text-2.ensures c.in_ok-text-3.ensures
+    (subst (λ (s : Seen). added s (Define 0 c.in_ok-text.field-0) ≡ Ok c.in_ok-first.first) c.empty-none.ensures c.in_ok-first.ensures) c.in_ok-second.ensures c.in_ok-third.ensures

@@ -1,0 +1,269 @@
+use Rattle.std.proofs.Common.{arith, ◌≡◌, refl, sym, ◌∙◌, subst, ap, List, Ok, Err, inl}
+use Rattle.pp_directives.specs.declared.directive.Directive.{Directive}
+use Rattle.pp_directives.specs.Directives.{directive_of}
+use Rattle.std.proofs.lemmas.List.{drop_all}
+use Rattle.std.proofs.Common.{◌<◌, ◌+◌, length, suc, drop, inr, []}
+use Rattle.pp_tokens.specs.declared.line.Line.{Line}
+use Rattle.pp_directives.specs.Running.{Runs}
+use Rattle.pp_unit.specs.declared.within.Within.{Within}
+use Rattle.pp_unit.specs.Files.{Stores, Walks, Enters, IncludesFound, DoesInclude, inside, with_roles, last_number}
+use Rattle.pp_unit.specs.Seen.{macros, started, added}
+use Rattle.macro_table.specs.Items.{End}
+use Rattle.pp_unit.specs.HeaderNames.{NamesHeader}
+use Rattle.pp_unit.specs.Questions.{operands, here_of}
+use Rattle.pp_unit.specs.Stopping.{with_marks, StopComesTo}
+use Rattle.pp_unit.proofs.FileLemmas.{unnamed, told_name, deep, searched, finds_at, file_unlexed, file_ends, file_end_fails, file_stops, refused_what, file_failed, stop_failed, unlexed_plain}
+use Rattle.pp_unit.specs.Lines.{Directs}
+use Rattle.pp_unit.proofs.EnterLemmas.{left_inside, frames_inside, start_stops, enter_goes, enter_fails, told_start, not_found, not_found_failed, failed_search, found_is, found_no_failure, once_found, stop_map, entered_found}
+use Rattle.pp_unit.proofs.WalkLemmas.{rules, stop_by, LineSteps, runs_all, runs_more, runs_stop, runs_end, runs_unclosed}
+use Rattle.pp_unit.proofs.StepLemmas.{stopped_out, line_stop_by, told, included_steps, passed_steps, directed_steps, turned_steps, turn_stops, turned_ok}
+use Rattle.pp_unit.proofs.CauseLemmas.{no_cause, as_failed, cause_at, failed_to, failed_from, handed_plain, answered_plain, plain_out, plain_comes, plain_answers, plain_added, plain_started, plain_directs, plain_turned, plain_header}
+use Rattle.pp_unit.proofs.walk.+walk.Goals as goal
+
+pub follow_line-returns-in_err-directive-clause-step : goal.follow_line-returns-in_err-directive-clause-step
+follow_line-returns-in_err-directive-clause-step g t c left marks has =
+    line_stop_by (rules (g.P.Headers.stores c.args.path.now) left c.args.within.now) c.args.within.now c.args.pending.now c.args.pending.now c.args.line.now _ c.from_residual.result c.in_err-directive.field-0.0 c.from_residual.ensures.1
+    (inl (stopped_out c.args.line.now.number c.kind_of.result c.in_err-directive.field-0.0 c.in_err-directive.ensures c.kind_of.ensures.err))
+
+pub follow_line-returns-in_err-directive-clause-cause : goal.follow_line-returns-in_err-directive-clause-cause
+follow_line-returns-in_err-directive-clause-cause g t c =
+    no_cause _ _ _ refl (handed_plain c.args.line.now.number c.kind_of.result c.in_err-directive.field-0.0 c.from_residual.result c.in_err-directive.ensures (plain_out c.kind_of.result c.kind_of.ensures.err) c.from_residual.ensures.1)
+
+pub follow_line-returns-in_err-in_line-clause-step : goal.follow_line-returns-in_err-in_line-clause-step
+follow_line-returns-in_err-in_line-clause-step g t c =
+    let d = c.in_ok-directive.directive in
+    turn_stops (g.P.Headers.stores c.args.path.now) c.args.within.now c.args.pending.now c.turn.new.pending c.args.line.now c.args.so_far d c.turn.result c.in_err-in_line.field-0.0 c.from_residual-in_err-in_line.result
+    (told c.args.line.now.number c.kind_of.result d (λ (e : Directive). e ≡ directive_of c.args.line.now.tokens) c.in_ok-directive.ensures c.kind_of.ensures.ok) (sym (c.if-is_conditional.ensures)) c.turn.ensures c.in_err-in_line.ensures c.from_residual-in_err-in_line.ensures.1
+
+pub follow_line-returns-in_err-in_line-clause-cause : goal.follow_line-returns-in_err-in_line-clause-cause
+follow_line-returns-in_err-in_line-clause-cause g t c =
+    no_cause _ _ _ refl (handed_plain c.args.line.now.number c.turn.result c.in_err-in_line.field-0.0 c.from_residual-in_err-in_line.result c.in_err-in_line.ensures
+    (plain_turned c.args.within.now c.args.line.now c.args.so_far c.in_ok-directive.directive c.args.pending.now c.turn.new.pending c.turn.result c.turn.ensures) c.from_residual-in_err-in_line.ensures.1)
+
+pub follow_line-returns-then-is_conditional-clause-step : goal.follow_line-returns-then-is_conditional-clause-step
+follow_line-returns-then-is_conditional-clause-step g t c =
+    let d = c.in_ok-directive.directive in
+    turned_steps (g.P.Headers.stores c.args.path.now) c.args.within.now c.args.pending.now c.turn.new.pending c.args.line.now c.args.so_far d tt
+    (told c.args.line.now.number c.kind_of.result d (λ (e : Directive). e ≡ directive_of c.args.line.now.tokens) c.in_ok-directive.ensures c.kind_of.ensures.ok) (sym (c.if-is_conditional.ensures))
+    (turned_ok c.args.line.now.number c.args.within.now c.args.line.now c.args.so_far d c.args.pending.now c.turn.new.pending c.turn.result tt c.in_ok-in_line.ensures c.turn.ensures)
+
+pub follow_line-returns-then-not-active-clause-step : goal.follow_line-returns-then-not-active-clause-step
+follow_line-returns-then-not-active-clause-step g t c =
+    let d = c.in_ok-directive.directive in
+    passed_steps (g.P.Headers.stores c.args.path.now) c.args.within.now c.args.pending.now c.args.line.now c.args.so_far d
+    (told c.args.line.now.number c.kind_of.result d (λ (e : Directive). e ≡ directive_of c.args.line.now.tokens) c.in_ok-directive.ensures c.kind_of.ensures.ok) (sym (c.if-is_conditional.ensures)) (sym c.active.ensures ∙ c.if-not-active.true)
+
+pub follow_line-returns-then-is_include-clause-step : goal.follow_line-returns-then-is_include-clause-step
+follow_line-returns-then-is_include-clause-step g t c =
+    let d = c.in_ok-directive.directive in
+    included_steps (g.P.Headers.stores c.args.path.now) c.args.within.now c.args.pending.now c.args.line.now c.args.so_far d c.include.result
+    (told c.args.line.now.number c.kind_of.result d (λ (e : Directive). e ≡ directive_of c.args.line.now.tokens) c.in_ok-directive.ensures c.kind_of.ensures.ok) (sym (c.if-is_conditional.ensures)) (sym c.active.ensures ∙ c.if-not-active.false) (sym c.if-is_include.ensures) c.include.ensures.included
+
+pub follow_line-returns-then-is_include-clause-cause : goal.follow_line-returns-then-is_include-clause-cause
+follow_line-returns-then-is_include-clause-cause g t c = c.include.ensures.cause
+
+pub follow_line-returns-clause-step : goal.follow_line-returns-clause-step
+follow_line-returns-clause-step g t c =
+    let d = c.in_ok-directive.directive in
+    directed_steps (g.P.Headers.stores c.args.path.now) c.args.within.now c.args.pending.now c.args.line.now c.args.so_far d c.follow_directive.result c.in_line-2.result
+    (told c.args.line.now.number c.kind_of.result d (λ (e : Directive). e ≡ directive_of c.args.line.now.tokens) c.in_ok-directive.ensures c.kind_of.ensures.ok) (sym (c.if-is_conditional.ensures)) (sym c.active.ensures ∙ c.if-not-active.false) (sym c.if-is_include.ensures) c.follow_directive.ensures c.in_line-2.ensures
+
+pub follow_line-returns-clause-cause : goal.follow_line-returns-clause-cause
+follow_line-returns-clause-cause g t c =
+    no_cause _ _ _ refl (answered_plain c.args.line.now.number c.follow_directive.result c.in_line-2.result c.in_line-2.ensures
+    (plain_comes (Directs c.args.within.now c.args.line.now c.in_ok-directive.directive c.args.so_far) c.follow_directive.result (plain_directs c.args.within.now c.args.line.now c.in_ok-directive.directive c.args.so_far) c.follow_directive.ensures))
+
+pub follow_lines-loop-line-init : goal.follow_lines-loop-line-init
+follow_lines-loop-line-init g t c = record { same = refl; kept = refl; runs = runs_all _ _ _ _ _ c.new-pending.ensures }
+
+pub follow_lines-loop-line-preserved : goal.follow_lines-loop-line-preserved
+follow_lines-loop-line-preserved g t c = record {
+  same = c.in_ok-so_far.ensures.same ∙ c.loop-line.invariant.same;
+  kept = c.in_ok-so_far.ensures.cause.kept (λ never. never) ∙ c.loop-line.invariant.kept;
+  runs = runs_more (g.P.Headers.stores c.args.path.now) c.args.within.now c.args.lines.now c.args.so_far c.loop-line.pending c.follow_line.new.pending c.loop-line.line-index c.line-item.result c.loop-line.so_far c.in_ok-so_far.so_far
+      c.loop-line-test.true c.line-item.is c.loop-line.invariant.runs
+      (subst (λ (s : Stores). LineSteps s c.args.within.now c.loop-line.pending c.line-item.result c.loop-line.so_far (Ok c.in_ok-so_far.so_far) c.follow_line.new.pending) c.loop-line.invariant.same c.in_ok-so_far.ensures.step);
+}
+
+pub follow_lines-returns-in_err-so_far-clause-run : goal.follow_lines-returns-in_err-so_far-clause-run
+follow_lines-returns-in_err-so_far-clause-run g t c =
+    runs_stop (g.P.Headers.stores c.args.path.now) c.args.within.now c.args.lines.now c.args.so_far c.loop-line.pending c.follow_line.new.pending c.loop-line.line-index c.line-item.result c.loop-line.so_far c.in_err-so_far.field-0.0 c.from_residual.result
+    c.loop-line-test.true c.line-item.is c.loop-line.invariant.runs
+    (subst (λ (s : Stores). LineSteps s c.args.within.now c.loop-line.pending c.line-item.result c.loop-line.so_far (Err c.in_err-so_far.field-0.0) c.follow_line.new.pending) c.loop-line.invariant.same c.in_err-so_far.ensures.step)
+    c.from_residual.ensures.1
+
+pub follow_lines-returns-in_err-so_far-clause-cause : goal.follow_lines-returns-in_err-so_far-clause-cause
+follow_lines-returns-in_err-so_far-clause-cause g t c =
+    as_failed _ _ _ _ (failed_to c.from_residual.result c.in_err-so_far.field-0.0 c.from_residual.ensures.1) (failed_from c.from_residual.result c.in_err-so_far.field-0.0 c.from_residual.ensures.1)
+    (cause_at _ _ _ _ c.loop-line.invariant.kept c.in_err-so_far.ensures.cause)
+
+pub follow_lines-returns-in-None-clause-run : goal.follow_lines-returns-in-None-clause-run
+follow_lines-returns-in-None-clause-run g t c =
+    runs_end (g.P.Headers.stores c.args.path.now) c.args.within.now c.args.lines.now c.args.so_far c.loop-line.pending (drop c.loop-line.line-index c.args.lines.now) c.loop-line.so_far (drop_all c.loop-line.line-index c.args.lines.now (omega arith)) (sym c.in-None.ensures) c.loop-line.invariant.runs
+
+pub follow_lines-returns-in-None-clause-cause : goal.follow_lines-returns-in-None-clause-cause
+follow_lines-returns-in-None-clause-cause g t c = no_cause _ _ _ c.loop-line.invariant.kept (λ never. never)
+
+pub follow_lines-returns-in-Some-clause-run : goal.follow_lines-returns-in-Some-clause-run
+follow_lines-returns-in-Some-clause-run g t c =
+    runs_unclosed (g.P.Headers.stores c.args.path.now) c.args.within.now c.args.lines.now c.args.so_far c.loop-line.pending (drop c.loop-line.line-index c.args.lines.now) c.loop-line.so_far c.in-Some.line (drop_all c.loop-line.line-index c.args.lines.now (omega arith)) (sym c.in-Some.ensures) c.loop-line.invariant.runs
+
+pub follow_lines-returns-in-Some-clause-cause : goal.follow_lines-returns-in-Some-clause-cause
+follow_lines-returns-in-Some-clause-cause g t c = no_cause _ _ _ c.loop-line.invariant.kept (λ is. cc)
+
+pub enter-returns-in_err-within-clause-entered : goal.enter-returns-in_err-within-clause-entered
+enter-returns-in_err-within-clause-entered g t c left marks has =
+    let stores = g.P.Headers.stores c.args.path.now in
+    stop_by c.args.outer.now (Enters stores (Walks stores (suc left)) c.args.outer.now c.args.line c.args.id c.args.bytes.now (with_marks c.args.so_far marks)) c.from_residual.result c.in_err-within.field-0.0 c.from_residual.ensures.1
+    (inl (stopped_out c.args.line c.included.result c.in_err-within.field-0.0 c.in_err-within.ensures c.included.ensures.err))
+
+pub enter-returns-in_err-within-clause-cause : goal.enter-returns-in_err-within-clause-cause
+enter-returns-in_err-within-clause-cause g t c =
+    no_cause _ _ _ refl (handed_plain c.args.line c.included.result c.in_err-within.field-0.0 c.from_residual.result c.in_err-within.ensures (plain_out c.included.result c.included.ensures.err) c.from_residual.ensures.1)
+
+pub enter-returns-in_err-so_far-clause-entered : goal.enter-returns-in_err-so_far-clause-entered
+enter-returns-in_err-so_far-clause-entered g t c left marks has =
+    let stores = g.P.Headers.stores c.args.path.now in
+    stop_by c.args.outer.now (Enters stores (Walks stores (suc left)) c.args.outer.now c.args.line c.args.id c.args.bytes.now (with_marks c.args.so_far marks)) c.from_residual-in_err-so_far.result c.in_err-so_far.field-0.0 c.from_residual-in_err-so_far.ensures.1
+    (start_stops stores (Walks stores (suc left)) c.args.outer.now c.in_ok-within.within c.args.line c.args.id c.args.bytes.now c.as_slice.result.now c.args.so_far marks c.start.result c.in_err-so_far.field-0.0
+    (told c.args.line c.included.result c.in_ok-within.within (λ (w : Within). w ≡ inside stores c.args.outer.now c.args.line c.args.id c.args.so_far) c.in_ok-within.ensures c.included.ensures.ok) c.as_slice.ensures c.start.ensures c.in_err-so_far.ensures)
+
+pub enter-returns-in_err-so_far-clause-cause : goal.enter-returns-in_err-so_far-clause-cause
+enter-returns-in_err-so_far-clause-cause g t c =
+    no_cause _ _ _ refl (handed_plain c.args.line c.start.result c.in_err-so_far.field-0.0 c.from_residual-in_err-so_far.result c.in_err-so_far.ensures
+    (plain_answers c.start.result (started c.args.so_far c.args.line c.as_slice.result.now) (plain_started c.args.so_far c.args.line c.as_slice.result.now) c.start.ensures) c.from_residual-in_err-so_far.ensures.1)
+
+pub enter-returns-in-Ok-clause-entered : goal.enter-returns-in-Ok-clause-entered
+enter-returns-in-Ok-clause-entered g t c left marks has =
+    let stores = g.P.Headers.stores c.args.path.now in
+    let is = told c.args.line c.included.result c.in_ok-within.within (λ (w : Within). w ≡ inside stores c.args.outer.now c.args.line c.args.id c.args.so_far) c.in_ok-within.ensures c.included.ensures.ok in
+    enter_goes stores (Walks stores (suc left)) c.args.outer.now c.in_ok-within.within c.args.line c.args.id c.args.bytes.now c.as_slice.result.now c.args.so_far c.in_ok-so_far.so_far c.in-Ok.so_far marks is c.as_slice.ensures
+    (told_start c.args.line c.start.result c.in_ok-so_far.so_far _ c.in_ok-so_far.ensures c.start.ensures)
+    (c.in-Ok.ensures.walked left marks (left_inside stores left c.args.outer.now c.in_ok-within.within c.args.line c.args.id c.args.so_far is has))
+
+pub enter-returns-in-Ok-clause-cause : goal.enter-returns-in-Ok-clause-cause
+enter-returns-in-Ok-clause-cause g t c = c.in-Ok.ensures.cause
+
+pub enter-returns-in-Err-clause-entered : goal.enter-returns-in-Err-clause-entered
+enter-returns-in-Err-clause-entered g t c left marks has =
+    let stores = g.P.Headers.stores c.args.path.now in
+    let is = told c.args.line c.included.result c.in_ok-within.within (λ (w : Within). w ≡ inside stores c.args.outer.now c.args.line c.args.id c.args.so_far) c.in_ok-within.ensures c.included.ensures.ok in
+    enter_fails stores (Walks stores (suc left)) c.args.outer.now c.in_ok-within.within c.args.line c.args.id c.args.bytes.now c.as_slice.result.now c.args.so_far c.in_ok-so_far.so_far marks c.in-Err.fault is c.as_slice.ensures
+    (told_start c.args.line c.start.result c.in_ok-so_far.so_far _ c.in_ok-so_far.ensures c.start.ensures)
+    (c.in-Err.ensures.walked left marks (left_inside stores left c.args.outer.now c.in_ok-within.within c.args.line c.args.id c.args.so_far is has))
+
+pub enter-returns-in-Err-clause-cause : goal.enter-returns-in-Err-clause-cause
+enter-returns-in-Err-clause-cause g t c = c.in-Err.ensures.cause
+
+pub open-returns-in-Err-clause-opened : goal.open-returns-in-Err-clause-opened
+open-returns-in-Err-clause-opened g t c left marks has =
+    let stores = g.P.Headers.stores c.args.path.now in
+    not_found stores (Walks stores (suc left)) c.args.outer.now c.args.line c.args.name (with_marks c.args.so_far marks) c.args.located c.args.bytes.now c.in-Err.what c.in-Err.ensures
+
+pub open-returns-in-Err-clause-cause : goal.open-returns-in-Err-clause-cause
+open-returns-in-Err-clause-cause g t c before had =
+    as_failed _ _ _ _ (not_found_failed c.args.located c.args.name c.in-Err.what c.in-Err.ensures) (failed_search c.args.located c.args.name c.in-Err.what c.in-Err.ensures) had
+
+pub open-returns-then-is_once-clause-opened : goal.open-returns-then-is_once-clause-opened
+open-returns-then-is_once-clause-opened g t c left marks has =
+    let stores = g.P.Headers.stores c.args.path.now in
+    once_found stores (Walks stores (suc left)) c.args.outer.now c.args.line c.args.name c.args.so_far marks c.args.located c.in-Ok.id c.args.bytes.now (found_is c.args.located c.args.name c.in-Ok.id c.in-Ok.ensures) c.if-is_once.ensures
+
+pub open-returns-then-is_once-clause-cause : goal.open-returns-then-is_once-clause-cause
+open-returns-then-is_once-clause-cause g t c before had =
+    as_failed _ _ _ _ (found_no_failure c.args.located c.in-Ok.id (found_is c.args.located c.args.name c.in-Ok.id c.in-Ok.ensures)) (λ never. absurd never) had
+
+pub open-returns-clause-opened : goal.open-returns-clause-opened
+open-returns-clause-opened g t c left marks has =
+    let stores = g.P.Headers.stores c.args.path.now in
+    stop_map c.args.outer.now (Enters stores (Walks stores (suc left)) c.args.outer.now c.args.line c.in-Ok.id c.args.bytes.now (with_marks c.args.so_far marks))
+    (IncludesFound stores (Walks stores (suc left)) c.args.outer.now c.args.line c.args.name (with_marks c.args.so_far marks) c.args.located c.args.bytes.now)
+    (λ r enters. entered_found stores (Walks stores (suc left)) c.args.outer.now c.args.line c.args.name (with_marks c.args.so_far marks) c.args.located c.in-Ok.id c.args.bytes.now r (found_is c.args.located c.args.name c.in-Ok.id c.in-Ok.ensures) c.if-is_once.ensures enters)
+    c.enter.result (c.enter.ensures.entered left marks has)
+
+pub open-returns-clause-cause : goal.open-returns-clause-cause
+open-returns-clause-cause g t c before had =
+    cause_at _ _ _ _ (had.kept (found_no_failure c.args.located c.in-Ok.id (found_is c.args.located c.args.name c.in-Ok.id c.in-Ok.ensures))) c.enter.ensures.cause
+
+pub include-returns-in_err-header-clause-included : goal.include-returns-in_err-header-clause-included
+include-returns-in_err-header-clause-included g t c left marks has =
+    let stores = g.P.Headers.stores c.args.path.now in
+    stop_by c.args.within.now (DoesInclude stores left (Walks stores left) c.args.within.now c.args.line.now (with_marks c.args.so_far marks)) c.from_residual.result c.in_err-header.field-0.0 c.from_residual.ensures.1
+    (unnamed stores left c.args.within.now c.args.line.now c.args.so_far marks c.header_of.result c.in_err-header.field-0.0 c.header_of.ensures c.in_err-header.ensures)
+
+pub include-returns-in_err-header-clause-cause : goal.include-returns-in_err-header-clause-cause
+include-returns-in_err-header-clause-cause g t c =
+    no_cause _ _ _ refl (handed_plain c.args.line.now.number c.header_of.result c.in_err-header.field-0.0 c.from_residual.result c.in_err-header.ensures
+    (plain_comes (NamesHeader (macros c.args.so_far) (here_of c.args.within.now c.args.line.now) (operands c.args.line.now)) c.header_of.result (plain_header (macros c.args.so_far) (here_of c.args.within.now c.args.line.now) (operands c.args.line.now)) c.header_of.ensures)
+    c.from_residual.ensures.1)
+
+pub include-returns-then-len-ge-OPEN_LIMIT-clause-included : goal.include-returns-then-len-ge-OPEN_LIMIT-clause-included
+include-returns-then-len-ge-OPEN_LIMIT-clause-included g t c left marks has =
+    inr (deep (g.P.Headers.stores c.args.path.now) left c.args.within.now c.args.line.now (with_marks c.args.so_far marks) c.in_ok-header.header has (omega arith)
+    (told_name c.args.line.now.number (NamesHeader (macros c.args.so_far) (here_of c.args.within.now c.args.line.now) (operands c.args.line.now)) c.header_of.result c.in_ok-header.header c.header_of.ensures c.in_ok-header.ensures))
+
+pub include-returns-then-len-ge-OPEN_LIMIT-clause-cause : goal.include-returns-then-len-ge-OPEN_LIMIT-clause-cause
+include-returns-then-len-ge-OPEN_LIMIT-clause-cause g t c = no_cause _ _ _ refl (λ is. cc)
+
+pub include-returns-clause-included : goal.include-returns-clause-included
+include-returns-clause-included g t c left marks has =
+    let stores = g.P.Headers.stores c.args.path.now in
+    let few : length c.args.within.now.frames < 200 = omega arith in
+    searched stores left c.args.within.now c.args.line.now c.args.so_far marks c.in_ok-header.header c.find-located.result c.as_slice-2.result.now c.open.result has few
+    (told_name c.args.line.now.number (NamesHeader (macros c.args.so_far) (here_of c.args.within.now c.args.line.now) (operands c.args.line.now)) c.header_of.result c.in_ok-header.header c.header_of.ensures c.in_ok-header.ensures)
+    (finds_at stores c.args.within.now.id c.in_ok-header.header.form c.in_ok-header.header.name c.as_slice.result.now c.find-located.result _ _ c.as_slice-2.result.now c.find-located.ensures.answer c.as_slice.ensures c.new-bytes.ensures.items c.as_slice-2.ensures.value)
+    (λ l ms room. subst (λ (s : Stores). StopComesTo c.args.within.now (IncludesFound s (Walks s (suc l)) c.args.within.now c.args.line.now.number c.in_ok-header.header.name (with_marks c.args.so_far ms) c.find-located.result c.as_slice-2.result.now) c.open.result)
+    c.find-located.ensures.same (c.open.ensures.opened l ms room))
+
+pub include-returns-clause-cause : goal.include-returns-clause-cause
+include-returns-clause-cause g t c = c.open.ensures.cause _ c.find-located.ensures.cause
+
+pub walk_file-returns-in-Err-clause-walked : goal.walk_file-returns-in-Err-clause-walked
+walk_file-returns-in-Err-clause-walked g t c left marks has =
+    file_unlexed (g.P.Headers.stores c.args.path.now) left c.args.within c.args.bytes.now (with_marks c.args.so_far marks) _ _ c.refuse.result c.in-Err.ensures.err c.refuse.ensures
+
+pub walk_file-returns-in-Err-clause-cause : goal.walk_file-returns-in-Err-clause-cause
+walk_file-returns-in-Err-clause-cause g t c =
+    no_cause _ _ _ refl (λ failed. unlexed_plain c.args.bytes.now _ _ c.in-Err.ensures.err (sym (refused_what c.args.within _ _ c.refuse.result c.refuse.ensures) ∙ failed))
+
+pub walk_file-returns-in-Ok-end-clause-walked : goal.walk_file-returns-in-Ok-end-clause-walked
+walk_file-returns-in-Ok-end-clause-walked g t c left marks has =
+    let stores = g.P.Headers.stores c.args.path.now in
+    file_ends stores left c.args.within c.args.bytes.now (with_marks c.args.so_far marks) c.in-Ok.lines c.in-Ok-follow_lines.so_far c.in-Ok-end.so_far c.in-Ok.ensures.ok
+    (subst (λ (ls : List Line). StopComesTo c.args.within (Runs (rules stores left c.args.within) [] (with_roles ls) (with_marks c.args.so_far marks)) (Ok c.in-Ok-follow_lines.so_far)) c.as_slice.ensures (c.in-Ok-follow_lines.ensures.run left marks has))
+    c.in-Ok-end.ensures
+
+pub walk_file-returns-in-Ok-end-clause-cause : goal.walk_file-returns-in-Ok-end-clause-cause
+walk_file-returns-in-Ok-end-clause-cause g t c = c.in-Ok-follow_lines.ensures.cause
+
+pub walk_file-returns-in-Err-end-clause-walked : goal.walk_file-returns-in-Err-end-clause-walked
+walk_file-returns-in-Err-end-clause-walked g t c left marks has =
+    let stores = g.P.Headers.stores c.args.path.now in
+    file_end_fails stores left c.args.within c.args.bytes.now (with_marks c.args.so_far marks) c.in-Ok.lines c.in-Ok-follow_lines.so_far c.last_number.result c.in-Err-end.what c.refuse-in-Err-end.result c.in-Ok.ensures.ok
+    (subst (λ (ls : List Line). StopComesTo c.args.within (Runs (rules stores left c.args.within) [] (with_roles ls) (with_marks c.args.so_far marks)) (Ok c.in-Ok-follow_lines.so_far)) c.as_slice.ensures (c.in-Ok-follow_lines.ensures.run left marks has))
+    (c.last_number.ensures ∙ ap (last_number 0) c.as_slice-in-Err-end.ensures) c.in-Err-end.ensures c.refuse-in-Err-end.ensures
+
+pub walk_file-returns-in-Err-end-clause-cause : goal.walk_file-returns-in-Err-end-clause-cause
+walk_file-returns-in-Err-end-clause-cause g t c =
+    no_cause _ _ _ (c.in-Ok-follow_lines.ensures.cause.kept (λ never. never))
+    (λ failed. plain_answers (Err c.in-Err-end.what) (added c.in-Ok-follow_lines.so_far End) (plain_added c.in-Ok-follow_lines.so_far End) c.in-Err-end.ensures (sym (refused_what c.args.within c.last_number.result c.in-Err-end.what c.refuse-in-Err-end.result c.refuse-in-Err-end.ensures) ∙ failed))
+
+pub walk_file-returns-in-Err-follow_lines-clause-walked : goal.walk_file-returns-in-Err-follow_lines-clause-walked
+walk_file-returns-in-Err-follow_lines-clause-walked g t c left marks has =
+    let stores = g.P.Headers.stores c.args.path.now in
+    file_stops stores left c.args.within c.args.bytes.now (with_marks c.args.so_far marks) c.in-Ok.lines c.in-Err-follow_lines.stop c.stop.result c.in-Ok.ensures.ok
+    (subst (λ (ls : List Line). StopComesTo c.args.within (Runs (rules stores left c.args.within) [] (with_roles ls) (with_marks c.args.so_far marks)) (Err c.in-Err-follow_lines.stop)) c.as_slice.ensures (c.in-Err-follow_lines.ensures.run left marks has))
+    c.stop.ensures
+
+pub walk_file-returns-in-Err-follow_lines-clause-cause : goal.walk_file-returns-in-Err-follow_lines-clause-cause
+walk_file-returns-in-Err-follow_lines-clause-cause g t c =
+    as_failed _ _ _ _ (file_failed c.args.within c.in-Err-follow_lines.stop c.stop.result c.stop.ensures) (stop_failed c.args.within c.in-Err-follow_lines.stop c.stop.result c.stop.ensures) c.in-Err-follow_lines.ensures.cause
+
+pub enter-walk_file-requires : goal.enter-walk_file-requires
+enter-walk_file-requires g t c κs within =
+    let stores = g.P.Headers.stores c.args.path.now in
+    let is : c.in_ok-within.within ≡ inside stores c.args.outer.now c.args.line c.args.id c.args.so_far =
+    told c.args.line c.included.result c.in_ok-within.within (λ (w : Within). w ≡ inside stores c.args.outer.now c.args.line c.args.id c.args.so_far) c.in_ok-within.ensures c.included.ensures.ok in
+    let longer : length c.in_ok-within.within.frames ≡ length c.args.outer.now.frames + 1 = frames_inside stores c.args.outer.now c.in_ok-within.within c.args.line c.args.id c.args.so_far is in
+    let store : c.in_ok-within.within.id.store < length stores = subst (λ (w : Within). w.id.store < length stores) (sym is) c.requires.store in
+    (omega arith, (within, (store, omega arith)))

@@ -1,0 +1,14 @@
+pub mod Kinds
+pub mod Seen
+pub mod Definitions
+pub mod LineNumbers
+pub mod HeaderNames
+pub mod Questions
+pub mod Lines
+pub mod Files
+pub mod Walk
+pub mod Recorded
+pub mod PreTables
+pub mod TableLaws
+pub mod Stopping
+pub mod WalkLaws

@@ -1,0 +1,127 @@
+-- How the code hands on the fault with which a file stops, and what a call answers that began with marks.
+use Rattle.std.specs.Prelude.{◌≡◌, ◌⊎◌, ℕ, ◌+◌, Bool, true, false, List, ◌∷◌, length, Result, Ok, Err}
+use Rattle.pp_tokens.specs.Cut.{LexesFile}
+use Rattle.pp_tokens.specs.Laws.{IsAnswer}
+use Rattle.pp_tokens.specs.declared.line.Line.{Line}
+use Rattle.pp_tokens.specs.declared.fault.LexFault.{LexFault}
+use Rattle.pp_directives.specs.declared.directive.Directive.{Directive}
+use Rattle.pp_directives.specs.declared.fault.StructFault.{StructFault}
+use Rattle.pp_directives.specs.Groups.{CondLine, line, role_of}
+use Rattle.pp_directives.specs.Conditions.{is_due, turned}
+use Rattle.pp_directives.specs.Following.{Ways}
+use Rattle.pp_directives.specs.Running.{Runs}
+use Rattle.pp_directives.specs.Directives.{directive_of}
+use Rattle.mac_io.specs.declared.headers.FileId.{FileId}
+use Rattle.mac_io.specs.declared.headers.Located.{Located}
+use Rattle.mac_io.specs.declared.headers.Located.TheVariants.{Found, Absent, TooLong, Failed}
+use Rattle.mac_io.specs.declared.headers.Located.TheVariants.{NoMemory as SearchRanOut}
+use Rattle.pp_directives.specs.declared.directive.Directive.TheVariants.{Include}
+use Rattle.pp_directives.specs.declared.open.Open.{Open}
+use Rattle.pp_unit.specs.declared.within.Within.{Within}
+use Rattle.pp_unit.specs.declared.stop.Stop.{Stop}
+use Rattle.pp_unit.specs.declared.stop.Stop.TheVariants.{Here, Inside}
+use Rattle.pp_unit.specs.declared.fault.PpFault.{PpFault}
+use Rattle.pp_unit.specs.declared.fault.PpKind.{PpKind}
+use Rattle.pp_unit.specs.declared.fault.PpKind.TheVariants.{Lex, Struct, NoSuchFile, SourceTooLong, NoMemory, StoreFault}
+use Rattle.pp_unit.specs.Kinds.{fault_at, ran_out}
+use Rattle.pp_unit.specs.Seen.{Seen, Mark, Marked}
+use Rattle.pp_unit.specs.Questions.{AnswersBy}
+use Rattle.pp_unit.specs.Files.{fault_line}
+use Rattle.pp_unit.specs.Walk.{open_limit}
+
+-- an answer, with a fault in this line
+abbrev pub stopped : {A : Type 0} → ℕ → Result A PpKind → Result A Stop
+stopped line (Ok x) = Ok x
+stopped line (Err kind) = Err (Here line kind)
+
+-- a fault in a line; want of memory has no place
+abbrev pub refused : Within → ℕ → PpKind → PpFault
+refused within line NoMemory = ran_out
+refused within line kind = fault_at within line kind
+
+-- the fault with which a file stops
+abbrev pub stop_answer : Within → Stop → PpFault
+stop_answer within (Here line kind) = refused within line kind
+stop_answer within (Inside fault) = fault
+
+-- that memory ran out
+abbrev pub IsOut : Stop → Type 0
+IsOut (Here line kind) = kind ≡ NoMemory
+IsOut (Inside fault) = fault ≡ ran_out
+
+-- the fault that a stop is by the rules
+abbrev pub stop_fault : Within → Stop → PpFault
+stop_fault within (Here line kind) = fault_at within line kind
+stop_fault within (Inside fault) = fault
+
+-- what was recorded, with these marks
+abbrev pub with_marks : Seen → List Mark → Marked
+with_marks seen marks = record { seen = seen; marks = marks }
+
+-- a call answers what the rules say, with some marks more, or that memory ran out
+abbrev pub FileComesTo : (Result Marked PpFault → Type 0) → Result Seen PpFault → Type 0
+FileComesTo Rules (Ok seen) = (marks : List Mark) × Rules (Ok (with_marks seen marks))
+FileComesTo Rules (Err fault) = (fault ≡ ran_out) ⊎ Rules (Err fault)
+
+-- the same of a part of a file
+abbrev pub StopComesTo : Within → (Result Marked PpFault → Type 0) → Result Seen Stop → Type 0
+StopComesTo within Rules (Ok seen) = (marks : List Mark) × Rules (Ok (with_marks seen marks))
+StopComesTo within Rules (Err stop) = IsOut stop ⊎ Rules (Err (stop_fault within stop))
+
+-- the same of a line, in front of any others: whatever these come to behind it, all come to
+abbrev pub LineRuns : Ways Line Marked PpFault → Within → List Open → Line → Marked → Result Seen Stop → List Open → Type 0
+LineRuns rules within old here m (Ok seen) new =
+    (marks : List Mark) × ((rest : List (CondLine Line)) (r : Result Marked PpFault) → Runs rules new rest (with_marks seen marks) r →
+    Runs rules old (line (role_of (directive_of here.tokens)) here ∷ rest) m r)
+LineRuns rules within old here m (Err stop) new =
+    IsOut stop ⊎ ((rest : List (CondLine Line)) → Runs rules old (line (role_of (directive_of here.tokens)) here ∷ rest) m (Err (stop_fault within stop)))
+
+-- so many files may still be opened in this one
+abbrev pub HasLeft : ℕ → Within → Type 0
+HasLeft left within = left + length within.frames ≡ open_limit
+
+-- a file stops since a store failed
+abbrev pub StopFailed : {A : Type 0} → Result A Stop → Type 0
+StopFailed (Ok x) = ⊥
+StopFailed (Err (Here line kind)) = kind ≡ StoreFault
+StopFailed (Err (Inside fault)) = fault.what ≡ StoreFault
+
+-- the walk of a file ends since a store failed
+abbrev pub FileFailed : {A : Type 0} → Result A PpFault → Type 0
+FileFailed (Ok x) = ⊥
+FileFailed (Err fault) = fault.what ≡ StoreFault
+
+-- why a file has no tokens, and the line where its fault stands
+abbrev pub IsUnlexed : List ℕ → ℕ → PpKind → Type 0
+IsUnlexed bytes line kind = (fault : LexFault) × LexesFile bytes (Err fault) × IsAnswer {A = List Line} (Err fault) × (line ≡ fault_line fault) × (kind ≡ Lex fault)
+
+-- the answer to a condition, which is asked where it decides a group
+abbrev pub Given : (due : Bool) → (Result Bool PpKind → Type 0) → Result Bool PpKind → Type 0
+Given true Asks answer = Asks answer
+Given false Asks answer = answer ≡ Ok false
+
+-- how a conditional directive with this answer turns what is pending
+abbrev pub turned_by_answer : Line → Directive → List Open → Bool → Result (List Open) StructFault
+turned_by_answer here directive pending answer = turned pending (line (role_of directive) (record { number = here.number; answer = answer }))
+
+-- Turned within here seen directive old new answer: the condition of a line is asked where that is due, and the line turns what is pending, or there is a fault
+abbrev pub Turned : Within → Line → Seen → Directive → List Open → List Open → Result (Unit {0}) PpKind → Type 0
+Turned within here seen directive old new (Ok x) =
+    (answer : Bool) × Given (is_due (role_of directive) old) (AnswersBy within here seen directive) (Ok answer) × (turned_by_answer here directive old answer ≡ Ok new)
+Turned within here seen directive old new (Err kind) =
+    (kind ≡ NoMemory) ⊎ (Given (is_due (role_of directive) old) (AnswersBy within here seen directive) (Err kind)
+    ⊎ ((answer : Bool) × Given (is_due (role_of directive) old) (AnswersBy within here seen directive) (Ok answer)
+    × (fault : StructFault) × (kind ≡ Struct fault) × (turned_by_answer here directive old answer ≡ Err fault)))
+
+-- an inclusion
+abbrev pub is_include : Directive → Bool
+is_include Include = true
+is_include _ = false
+
+-- the file that a search found, or the kind of fault with which there is none
+abbrev pub IsFoundIn : Located → List ℕ → Result FileId PpKind → Type 0
+IsFoundIn (Found id) name result = result ≡ Ok id
+IsFoundIn Absent name result = result ≡ Err (NoSuchFile name)
+IsFoundIn TooLong name result = result ≡ Err (SourceTooLong name)
+IsFoundIn Failed name result = result ≡ Err StoreFault
+IsFoundIn SearchRanOut name result = result ≡ Err NoMemory

@@ -1,0 +1,190 @@
+ghost use Rattle.std.specs.Prelude.{◌≡◌, Ok, IfOk};
+ghost use Rattle.std.specs.List.{list_any, list_all};
+ghost use Rattle.std.specs.Option.{option_copied};
+ghost use Rattle.pp_tokens.specs.Kinds.{same, is_identifier, is_letter, is_word};
+ghost use Rattle.macro_table.specs.Answers.{Answers};
+ghost use Rattle.macro_table.specs.Definitions.{def_of};
+ghost use Rattle.macro_table.specs.Texts.{def_of_text};
+ghost use Rattle.pp_unit.specs.declared.fault.PpKind.TheVariants.{NoMemory as RanOut};
+ghost use Rattle.pp_unit.specs.Definitions.{is_predefined, conflicts, defined, undefined, defined_by, defined_by_text, define_text, commanded, all_commanded, predefined};
+
+use crate::fault::PpKind;
+use crate::record::Record;
+use crate::spec::Command;
+use crate::spelled::is_text;
+use mac_base::{Bytes, NoMemory};
+use macro_table::{Def, DefFault, TextFault, def_of_text, parse_define, same, text_of};
+use pp_tokens::Token;
+use std::alloc::Global;
+
+/// Whether a name is neither defined nor undefined (C17 6.10.8 p4).
+fn is_predefined(name: &[u8]) -> bool
+    ensures { result ≡ is_predefined name.now }
+{
+    is_text(name, b"__STDC__")
+        || is_text(name, b"__STDC_HOSTED__")
+        || is_text(name, b"__STDC_VERSION__")
+        || is_text(name, b"__LINE__")
+        || is_text(name, b"__FILE__")
+}
+
+/// Whether a text, if there is one, is another definition than this one (6.10.3 p2).
+fn conflicts(alloc: Global, text: Option<&[u8]>, def: &Def) -> Result<bool, NoMemory>
+    ensures { IfOk result (λ other. other ≡ conflicts (option_copied text.entry) def.now) }
+{
+    let Some(text) = text else {
+        return Ok(false);
+    };
+    match def_of_text(alloc, text) {
+        Ok(other) => Ok(!same(&other, def)),
+        Err(TextFault::NoMemory) => Err(NoMemory),
+        Err(TextFault::Lex(_)) => Ok(true),
+        Err(TextFault::Def(_)) => Ok(true),
+    }
+}
+
+/// A definition in this line.
+pub fn define(so_far: Record, line: u64, def: &Def) -> Result<Record, PpKind>
+    ensures { Answers RanOut result (defined so_far line def.now) }
+{
+    let alloc = so_far.alloc();
+    if is_predefined(def.name.as_slice()) {
+        return Err(PpKind::Predefined {
+            name: def.name.copy()?,
+        });
+    }
+    let other = conflicts(alloc, so_far.text_of(def.name.as_slice()), def)?;
+    if other {
+        return Err(PpKind::Redefined {
+            name: def.name.copy()?,
+        });
+    }
+    let text = text_of(alloc, def)?;
+    so_far.define(line, text)
+}
+
+/// What the tokens behind `#define` define, in this line.
+pub fn define_tokens(so_far: Record, line: u64, tokens: &[Token]) -> Result<Record, PpKind>
+    ensures { Answers RanOut result (defined_by so_far line (def_of tokens.now)) }
+{
+    let def = parse_define(so_far.alloc(), tokens)?;
+    define(so_far, line, &def)
+}
+
+/// An `#undef` of this name in this line.
+pub fn undefine(so_far: Record, line: u64, name: &Bytes) -> Result<Record, PpKind>
+    ensures { Answers RanOut result (undefined so_far line name.now) }
+{
+    let name = name.copy()?;
+    if is_predefined(name.as_slice()) {
+        return Err(PpKind::Predefined { name });
+    }
+    so_far.undef(line, name)
+}
+
+/// The definition that a word is: its first `=` stands for a space, and where it has none the name is defined as 1.
+fn define_text(alloc: Global, word: &[u8]) -> Result<Vec<u8>, NoMemory>
+    ensures { IfOk result (λ text. text.items ≡ define_text word.now) }
+{
+    let mut text = Vec::new(alloc);
+    let mut left = word;
+    while let [byte, rest @ ..] = left {
+        if *byte == b'=' {
+            text.push(b' ')?;
+            text.extend_from_slice(rest)?;
+            return Ok(text);
+        }
+        text.push(*byte)?;
+        left = rest;
+    }
+    text.extend_from_slice(b" 1")?;
+    Ok(text)
+}
+
+/// Whether a word is one identifier.
+fn is_identifier(word: &[u8]) -> bool
+    ensures { result ≡ is_identifier word.now }
+{
+    match word {
+        [first, rest @ ..] => is_letter(*first) && are_words(rest),
+        [] => false,
+    }
+}
+
+/// Letters and digits.
+fn are_words(bytes: &[u8]) -> bool
+    ensures { result ≡ list_all is_word bytes.now }
+{
+    bytes.iter().all(|byte| is_word(*byte))
+}
+
+/// A letter, `_`, `$`, or a byte from 128 on.
+fn is_letter(byte: u8) -> bool
+    ensures { result ≡ is_letter byte }
+{
+    byte >= 65 && byte <= 90
+        || byte >= 97 && byte <= 122
+        || byte == b'_'
+        || byte == b'$'
+        || byte >= 128
+}
+
+/// A letter or a digit.
+fn is_word(byte: u8) -> bool
+    ensures { result ≡ is_word byte }
+{
+    is_letter(byte) || byte >= 48 && byte <= 57
+}
+
+/// A word of the command.
+fn follow_command(so_far: Record, command: &Command) -> Result<Record, PpKind>
+    ensures { Answers RanOut result (commanded so_far command.now) }
+{
+    match command {
+        Command::Define(word) => define_word(so_far, word.as_slice()),
+        Command::Undef(word) => {
+            if !is_identifier(word.as_slice()) {
+                return Err(PpKind::Def(DefFault::NoName));
+            }
+            undefine(so_far, 0, word)
+        }
+    }
+}
+
+/// The definition that a word is.
+fn define_word(so_far: Record, word: &[u8]) -> Result<Record, PpKind>
+    ensures { Answers RanOut result (defined_by_text so_far (def_of_text (define_text word.now))) }
+{
+    let text = define_text(so_far.alloc(), word)?;
+    let def = def_of_text(so_far.alloc(), text.as_slice())?;
+    define(so_far, 0, &def)
+}
+
+/// The words of the command, in order.
+pub fn follow_commands(so_far: Record, commands: &[Command]) -> Result<Record, PpKind>
+    ensures { Answers RanOut result (all_commanded so_far commands.now) }
+{
+    let mut so_far = so_far;
+    for command in commands {
+        so_far = follow_command(so_far, command)?;
+    }
+    Ok(so_far)
+}
+
+/// A list of its own of these bytes.
+fn text(alloc: Global, bytes: &[u8]) -> Result<Bytes, NoMemory>
+    ensures { IfOk result (λ copied. copied ≡ bytes.now) }
+{
+    Ok(Bytes::from_vec(Vec::from_slice(alloc, bytes)?))
+}
+
+/// What is predefined (C17 6.10.8.1).
+pub fn predefine(alloc: Global) -> Result<Record, PpKind>
+    ensures { Answers RanOut result (Ok predefined) }
+{
+    let none = Record::empty(alloc);
+    let first = none.define(0, text(alloc, b"__STDC__ 1")?)?;
+    let second = first.define(0, text(alloc, b"__STDC_HOSTED__ 1")?)?;
+    let third = second.define(0, text(alloc, b"__STDC_VERSION__ 201710L")?)?;
+    Ok(third)
+}

@@ -1,0 +1,7 @@
+ghost use Rattle.pp_unit.specs.WalkLaws.{WalkHasOneAnswer};
+
+/// Where the stores of the path tell their files, these alone decide what a unit comes to: it is accepted with one list of
+/// events, paths and marks, or it has one first fault at one place. That a store fails is the only other answer.
+pub fn walk_has_one_answer()
+    ensures { WalkHasOneAnswer }
+{}
