@@ -4,6 +4,7 @@
 
 mod bytes;
 mod cursor;
+mod events;
 mod extent;
 mod form;
 mod frames;
@@ -20,6 +21,7 @@ mod value;
 
 pub use bytes::Bytes;
 pub use cursor::{Cursor, CursorFault};
+pub use events::{Event, EventList, Events};
 pub use extent::{Extent, ExtentFault, extent_at};
 pub use form::{Form, Layout, form_of, layout_of};
 pub use frames::{Frame, Frames};

@@ -10,8 +10,8 @@ use Rattle.mac_base.specs.Names.{name_of}
 use Rattle.macro_table.specs.Tables.{EntryValue, TableOf}
 use Rattle.macro_table.specs.Items.{Item, Define, Undef, Start, End}
 use Rattle.macro_table.specs.FileTable.{table_of, table_behind, changed, open_behind}
-use Rattle.pp_unit.specs.declared.events.Event.{Event}
-use Rattle.pp_unit.specs.declared.events.Event.TheVariants.{Define as HeldDefine, Undef as HeldUndef, Start as HeldStart, End as HeldEnd}
+use Rattle.mac_base.specs.declared.events.Event.{Event}
+use Rattle.mac_base.specs.declared.events.Event.TheVariants.{Define as HeldDefine, Undef as HeldUndef, Start as HeldStart, End as HeldEnd}
 use Rattle.mac_io.specs.declared.headers.FileId.{FileId}
 use Rattle.pp_unit.specs.Seen.{Seen, with_path, text_in, item_of, text_length, texts_length, event_limit, text_limit}
 use Rattle.pp_unit.specs.Recorded.{SameTexts, IsSound}

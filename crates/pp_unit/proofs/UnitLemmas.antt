@@ -1,6 +1,6 @@
 -- What a whole unit comes to, by what the code does with it.
 use Rattle.std.proofs.Common.{◌≡◌, ◌⊎◌, inl, inr, ℕ, List, [], ◌∷◌, Result, Ok, Err, refl, sym, ap, subst, ◌∙◌}
-use Rattle.pp_unit.specs.declared.events.Events.{Events}
+use Rattle.mac_base.specs.declared.events.Events.{Events}
 use Rattle.mac_base.specs.Input.{◌>>=◌}
 use Rattle.mac_io.specs.Search.{Finds}
 use Rattle.mac_io.specs.declared.headers.FileId.{FileId}

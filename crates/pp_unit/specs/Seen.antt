@@ -4,8 +4,8 @@ use Rattle.std.specs.Option.{option_map}
 use Rattle.std.specs.List.{list_any}
 use Rattle.std.specs.FinMap as finite
 use Rattle.mac_base.specs.declared.frames.Frame.{Frame}
-use Rattle.pp_unit.specs.declared.events.Event.{Event}
-use Rattle.pp_unit.specs.declared.events.Event.TheVariants.{Define as HeldDefine, Undef as HeldUndef, Start as HeldStart, End as HeldEnd}
+use Rattle.mac_base.specs.declared.events.Event.{Event}
+use Rattle.mac_base.specs.declared.events.Event.TheVariants.{Define as HeldDefine, Undef as HeldUndef, Start as HeldStart, End as HeldEnd}
 use Rattle.mac_io.specs.declared.headers.FileId.{FileId}
 use Rattle.pp_tokens.specs.Kinds.{same}
 use Rattle.macro_table.specs.Items.{Item, Define, Undef, Start, End}

@@ -1,6 +1,6 @@
 -- The walk of a translation unit: what is predefined, the words of the command, and then the primary file with all that it includes (C17 5.1.1.1, 6.10).
 use Rattle.std.specs.Prelude.{◌≡◌, ◌⊎◌, ℕ, [], ◌∷◌, map, Result, Ok, Err}
-use Rattle.pp_unit.specs.declared.events.Events.{Events}
+use Rattle.mac_base.specs.declared.events.Events.{Events}
 use Rattle.pp_directives.specs.Following.{Then}
 use Rattle.pp_unit.specs.declared.within.Within.{Within}
 use Rattle.pp_unit.specs.declared.spec.UnitSpec.{UnitSpec}

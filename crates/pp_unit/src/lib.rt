@@ -4,7 +4,6 @@
 
 mod defining;
 mod direct;
-mod events;
 mod fault;
 mod header;
 mod header_name;
@@ -23,7 +22,6 @@ mod walk;
 mod walk_law;
 mod within;
 
-pub use events::{Event, EventList, Events};
 pub use fault::{DirectiveFault, PpFault, PpKind};
 pub use spec::{Command, Commands, UnitSpec};
 pub use tables_law::tables_agree;

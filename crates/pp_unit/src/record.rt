@@ -13,9 +13,8 @@ ghost use Rattle.macro_expand.specs.Rules.{ExpandsTo};
 ghost use Rattle.pp_unit.specs.Walk.{AreSeen};
 ghost use Rattle.pp_unit.specs.Recorded.{Admits};
 
-use crate::events::{Event, EventList, Events};
 use crate::fault::PpKind;
-use mac_base::{Bytes, Frames, NoMemory, Paths, Place};
+use mac_base::{Bytes, Event, EventList, Events, Frames, NoMemory, Paths, Place};
 use mac_io::FileId;
 use macro_expand::{ExpandFault, Here, expand};
 use macro_table::Table;

@@ -1,7 +1,7 @@
 ghost use Rattle.std.specs.Prelude.{◌<◌, length};
 
-use crate::{Command, Commands, Event, PpFault, UnitSpec, preprocess};
-use mac_base::{Bytes, NoMemory, Paths};
+use crate::{Command, Commands, PpFault, UnitSpec, preprocess};
+use mac_base::{Bytes, Event, NoMemory, Paths};
 use mac_io::{Headers, MapStore, SearchPath, are_distinct};
 use std::alloc::Global;
 use std::process::Abort;

@@ -8,14 +8,13 @@ ghost use Rattle.pp_unit.specs.Stopping.{StopComesTo, StopFailed, with_marks};
 ghost use Rattle.pp_unit.specs.Walk.{IsWalked, StoreFailed, open_limit, outside};
 
 use crate::defining::{follow_commands, predefine};
-use crate::events::Events;
 use crate::fault::{PpFault, PpKind};
 use crate::record::Record;
 use crate::spec::UnitSpec;
 use crate::stop::{Stop, in_line};
 use crate::walk::open;
 use crate::within::Within;
-use mac_base::{Bytes, Frames};
+use mac_base::{Bytes, Events, Frames};
 use mac_io::{FileId, Headers};
 use std::alloc::Global;
 

@@ -1,6 +1,8 @@
 ghost use Rattle.std.specs.Prelude.{◌≡◌, [], ◌∷◌, ◌++◌, length, OnOk, OnErr};
 
-use mac_base::{Bytes, NoMemory, Paths};
+use crate::bytes::Bytes;
+use crate::memory::NoMemory;
+use crate::paths::Paths;
 use std::alloc::Global;
 use std::marker::Model;
 
@@ -36,7 +38,7 @@ pub struct EventList {
 
 impl Model for EventList {
     ghost use Rattle.std.specs.Prelude.{List};
-    ghost use Rattle.pp_unit.specs.declared.events.Event.{Event};
+    ghost use Rattle.mac_base.specs.declared.events.Event.{Event};
 
     ghost Value = { List Event };
 
