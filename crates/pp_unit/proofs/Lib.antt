@@ -24,4 +24,7 @@ pub mod OneLexLemmas
 pub mod OnePartLemmas
 pub mod OnePlainLemmas
 pub mod OneWalkLemmas
+pub mod MoreLemmas
+pub mod LessLemmas
+pub mod SomeWalkLemmas
 pub mod UnitLemmas

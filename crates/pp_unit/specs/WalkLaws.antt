@@ -1,4 +1,4 @@
--- A law of walks: where the stores tell their files, these alone decide what a translation unit comes to (C17 5.1.1.1, 6.10.2).
+-- Two laws of walks: where the stores tell their files, these alone decide what a translation unit comes to, and over any stores it comes to something (C17 5.1.1.1, 6.10.2).
 use Rattle.std.specs.Prelude.{◌≡◌, ◌≢◌, ℕ, ◌<◌, List, length, Option, Some, Result, Ok, Err}
 use Rattle.std.specs.List.{All}
 use Rattle.mac_io.specs.Files.{Files}
@@ -47,3 +47,22 @@ pub record HasOneOnFiles (Answers : Result Marked PpFault → Type 0) : Type 0 w
 -- A unit over such stores is accepted in one way, or has one first fault, but for the failures of stores.
 abbrev pub WalkHasOneAnswer : Type 0
 WalkHasOneAnswer = (stores : Stores) (spec : UnitSpec) → TellFiles stores → HasOneOnFiles (Walk stores spec)
+
+-- an answer that is no want of memory, and holds none
+abbrev pub IsPlainAnswer : Result Marked PpFault → Type 0
+IsPlainAnswer (Ok m) = Unit {0}
+IsPlainAnswer (Err fault) = IsPlain fault.what
+
+-- at least one answer on the files
+pub record HasSomeOnFiles (Answers : Result Marked PpFault → Type 0) : Type 0 where
+  pub answer : Result Marked PpFault
+  -- no store failed
+  pub on_files : IsOnFiles answer
+  -- and there was memory
+  pub plain : IsPlainAnswer answer
+  -- it is an answer
+  pub holds : Answers answer
+
+-- A unit is accepted or has a first fault, whatever the stores tell of their files. Where one tells nothing, there may be more answers.
+abbrev pub WalkHasAnAnswer : Type 0
+WalkHasAnAnswer = (stores : Stores) (spec : UnitSpec) → 0 < length stores → HasSomeOnFiles (Walk stores spec)

@@ -26,4 +26,4 @@ pub use fault::{DirectiveFault, PpFault, PpKind};
 pub use spec::{Command, Commands, UnitSpec};
 pub use tables_law::tables_agree;
 pub use unit::preprocess;
-pub use walk_law::walk_has_one_answer;
+pub use walk_law::{walk_has_an_answer, walk_has_one_answer};
