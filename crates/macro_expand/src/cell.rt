@@ -14,7 +14,9 @@ use crate::strings::string_of;
 use crate::token::{is_hash, is_named, is_paste};
 use mac_base::{Bytes, NoMemory};
 use pp_tokens::Token;
+use smallvec::SmallVec;
 use std::alloc::Global;
+use std::default::MadeWith;
 
 /// An argument of a call: its parameter, its tokens as written, and what they expand to.
 #[derive(Drop)]
@@ -22,6 +24,20 @@ pub struct Given {
     pub name: Bytes,
     pub plain: Vec<Hidden>,
     pub expanded: Vec<Hidden>,
+}
+
+/// The arguments of a call. Two of them take no memory of their own.
+pub type Arguments = SmallVec<Given, 2>;
+
+impl MadeWith<Global> for Given {
+    /// What stands in a place of a list that has no argument.
+    fn made_with(alloc: Global) -> Given {
+        Given {
+            name: Bytes::new(alloc),
+            plain: Vec::new(alloc),
+            expanded: Vec::new(alloc),
+        }
+    }
 }
 
 /// A piece of a replacement list with the arguments in it.

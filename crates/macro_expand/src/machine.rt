@@ -8,7 +8,7 @@ ghost use Rattle.macro_expand.specs.States.{Answers, marked, argument_of};
 ghost use Rattle.macro_expand.specs.Slots.{lists};
 ghost use Rattle.macro_expand.specs.Machine.{meaning, replacing, replacing_size, size, GoesOn, IsStep, IsFaultOf, plain_of, lists_after, wanted_in, AnswersList};
 
-use crate::cell::Given;
+use crate::cell::{Arguments, Given};
 use crate::fault::ExpandFault;
 use crate::head::{NextHead, Replacing, take_head};
 use crate::here::Here;
@@ -19,6 +19,7 @@ use crate::stack::{Stack, copy_list, drop_lists, put_back, take_list};
 use crate::substitute::substitute;
 use mac_base::{Bytes, NoMemory};
 use pp_tokens::Token;
+use smallvec::SmallVec;
 use std::alloc::{AllocError, Global};
 use std::mem;
 
@@ -31,7 +32,7 @@ pub const LIMIT: u64 = 4_194_304;
 pub struct Frame {
     pub out: Vec<Hidden>,
     pub call: Replacing,
-    pub done: Vec<Given>,
+    pub done: Arguments,
     pub name: Bytes,
     pub plain: Vec<Hidden>,
 }
@@ -117,7 +118,7 @@ fn advance(
     alloc: Global,
     machine: &mut Machine,
     mut call: Replacing,
-    mut done: Vec<Given>,
+    mut done: Arguments,
 ) -> Result<(), ExpandFault>
     requires work { machine.old.work ≤ limit }
     ensures ok { OnOk result ((macros : Macros) (here : HereValue) → GoesOn macros here (replacing macros here machine.old call done.items) (suc (replacing_size machine.old call)) machine.new) }
@@ -169,7 +170,7 @@ fn step(
             Ok(true)
         }
         NextHead::Replaced(call) => {
-            advance(alloc, machine, call, Vec::new(alloc))?;
+            advance(alloc, machine, call, SmallVec::new(alloc))?;
             Ok(true)
         }
         NextHead::Finished => {

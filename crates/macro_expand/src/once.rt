@@ -13,7 +13,7 @@ ghost use Rattle.macro_expand.specs.Machine.{IsFaultOf, AnswersList};
 ghost use Rattle.macro_expand.specs.Levels.{put_by, level_meaning, level_replacing, level_size, LevelGoesOn, IsLevelStep};
 ghost use Rattle.macro_expand.specs.Answering.{IsAnswer};
 
-use crate::cell::Given;
+use crate::cell::{Arguments, Given};
 use crate::expansion::{has_lone_quote, without_hides};
 use crate::fault::ExpandFault;
 use crate::head::{NextHead, Replacing, take_head};
@@ -27,6 +27,7 @@ use crate::substitute::substitute;
 use mac_base::NoMemory;
 use macro_table::Table;
 use pp_tokens::Tokens;
+use smallvec::SmallVec;
 use std::alloc::Global;
 
 /// The lists that wait, what is put out, and the work so far.
@@ -53,11 +54,11 @@ fn written_arguments(
     alloc: Global,
     slots: &mut Stack,
     call: &Replacing,
-) -> Result<Vec<Given>, NoMemory>
+) -> Result<Arguments, NoMemory>
     ensures args { IfOk result (λ done. map argument_of done.items ≡ as_written (Call.args (call_of call.now (lists slots.old)))) }
     ensures rest { OnOk result (first_list (lists slots.new) ≡ Call.rest (call_of call.now (lists slots.old))) }
 {
-    let mut done = Vec::new(alloc);
+    let mut done = SmallVec::new(alloc);
     let mut next = call.next;
     let mut count = call.count;
     while let Some(name) = param_at(alloc, &call.def, next)? {

@@ -56,7 +56,7 @@ loop-done-preserved c =
     let n : Machine = record { slots = c.take_argument.new.slots; out = c.loop-done.machine.out; work = c.loop-done.machine.work; frames = c.loop-done.machine.frames } in
     let g : Given = record { name = c.in-Some.name; plain = c.in_ok-plain-2.plain; expanded = c.new-in-Some.result } in
     let go : (macros : Macros) (here : Here) → (replacing macros here n q c.push-in-Some.new.self.items ≡ replacing macros here c.loop-done.machine r c.loop-done.done.items) × (replacing_size n q < replacing_size c.loop-done.machine r) = λ macros here. on_plain macros here r q c.in-Some.name (lists c.loop-done.machine.slots) refl refl refl refl c.saturating_sub.ensures ps c.loop-done.machine n g c.loop-done.done.items c.push-in-Some.new.self.items refl (is ∙ c.if-is_wanted.false)
-    c.in_ok-plain-2.ensures.others refl refl refl (same_argument g c.in-Some.name _ refl c.in_ok-plain-2.ensures.list c.new-in-Some.ensures.items) c.in_ok-push-2.ensures.items in
+    c.in_ok-plain-2.ensures.others refl refl refl (same_argument g c.in-Some.name _ refl c.in_ok-plain-2.ensures.list c.new-in-Some.ensures.items) c.in_ok-push-2.ensures.ok in
     record {
       same = λ macros here. (go macros here).0 ∙ c.loop-done.invariant.same macros here;
       less = omega (arith, (go (λ n. None) (record { line = 0; file = [] })).1, c.loop-done.invariant.less);
@@ -66,5 +66,5 @@ loop-done-preserved c =
 pub returns-clause-ok : goal.returns-clause-ok
 returns-clause-ok c = λ macros here.
     goes_on_from macros here (replacing macros here c.loop-done.machine c.loop-done.call c.loop-done.done.items) _ (suc (replacing_size c.loop-done.machine c.loop-done.call)) _ c.replace.new.machine
-    (subst (λ d. GoesOn macros here (replacing macros here c.loop-done.machine c.loop-done.call d) (suc (replacing_size c.loop-done.machine c.loop-done.call)) c.replace.new.machine) c.as_slice-2.ensures.value (c.in_ok-replace.ensures.ok macros here))
+    (subst (λ d. GoesOn macros here (replacing macros here c.loop-done.machine c.loop-done.call d) (suc (replacing_size c.loop-done.machine c.loop-done.call)) c.replace.new.machine) c.as_slice-2.ensures (c.in_ok-replace.ensures.ok macros here))
     (sym (c.loop-done.invariant.same macros here)) (omega (arith, c.loop-done.invariant.less))

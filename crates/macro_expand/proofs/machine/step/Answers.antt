@@ -49,7 +49,7 @@ returns-in_err-advance-in-Finished-clause-err c =
     let f : Frame = c.in-Some.frame in
     let g : Given = record { name = f.name; plain = f.plain; expanded = c.replace-expanded.result } in
     let k = on_return M H m (lists m.slots) refl n (lists c.take_head.new.slots) refl refl c.pop.new.self.items f g c.push-in-Finished.new.self.items h.0 h.1 c.in-Some.ensures.items
-    (given_in f g m.out.items refl refl (ap (λ v. v.items) c.replace-expanded.ensures.value)) c.in_ok-push-in-Finished.ensures.items c.replace-expanded.ensures.after refl in
+    (given_in f g m.out.items refl refl (ap (λ v. v.items) c.replace-expanded.ensures.value)) c.in_ok-push-in-Finished.ensures.ok c.replace-expanded.ensures.after refl in
     rw (p.1, p.2) (fault_as c.in_err-advance-in-Finished.field-0.0 (replacing M H n f.call c.push-in-Finished.new.self.items) (meaning M H m) (λ e. sym k.0 ∙ e) (c.in_err-advance-in-Finished.ensures.err M H))
 
 pub returns-in_ok-push-in-Stays-clause-ok : goal.returns-in_ok-push-in-Stays-clause-ok
@@ -82,5 +82,5 @@ returns-in_ok-advance-in-Finished-clause-ok c =
     let f : Frame = c.in-Some.frame in
     let g : Given = record { name = f.name; plain = f.plain; expanded = c.replace-expanded.result } in
     let k = on_return M H m (lists m.slots) refl n (lists c.take_head.new.slots) refl refl c.pop.new.self.items f g c.push-in-Finished.new.self.items h.0 h.1 c.in-Some.ensures.items
-    (given_in f g m.out.items refl refl (ap (λ v. v.items) c.replace-expanded.ensures.value)) c.in_ok-push-in-Finished.ensures.items c.replace-expanded.ensures.after refl in
+    (given_in f g m.out.items refl refl (ap (λ v. v.items) c.replace-expanded.ensures.value)) c.in_ok-push-in-Finished.ensures.ok c.replace-expanded.ensures.after refl in
     goes_on_from M H (replacing M H n f.call c.push-in-Finished.new.self.items) (meaning M H m) (suc (replacing_size n f.call)) (size m) c.advance-in-Finished.new.machine (c.in_ok-advance-in-Finished.ensures.ok M H) (sym k.0) k.1
