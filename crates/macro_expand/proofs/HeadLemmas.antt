@@ -9,6 +9,7 @@ use Rattle.std.specs.Option.{option_map}
 use Rattle.macro_expand.specs.declared.known.Known.{Known}
 use Rattle.macro_expand.specs.Known.{def_value, IsMeaning}
 use Rattle.macro_expand.specs.Calls.{to_first, first_list, other_lists}
+use Rattle.macro_expand.specs.Taking.{named_head}
 use Rattle.macro_expand.specs.Heads.{Stays, is_kept, macro_head, name_head, seen_head, head_of}
 use Rattle.macro_expand.proofs.SlotLemmas.{first_more, others_same}
 
@@ -28,3 +29,7 @@ others_are m old new e = sym (ap other_lists e ∙ others_same m new)
 pub found_is : (macros : Macros) (k : Option Known) (known : Known) (def : _) (name q : List ℕ) → k ≡ Some known → known.def ≡ Some def → IsMeaning k name (macros name) → name ≡ q → macros q ≡ Some (Some def.value)
 found_is macros k known def name q e d m n =
     ap macros (sym n) ∙ (subst (λ (o : Option Known). IsMeaning o name (macros name)) e m).0 ∙ ap (λ o. Some (option_map def_value o)) d
+
+-- a name that the token does not hide
+pub named_seen : (macros : Macros) (here : Here) (m : Marked) (rest : List Marked) → m.hides m.token.text ≡ false → named_head macros here m rest ≡ seen_head macros here m rest
+named_seen macros here m rest e = cond-false (m.hides m.token.text) (Stays m rest) (seen_head macros here m rest) e

@@ -1,5 +1,5 @@
 -- What is remembered of a table.
-use Rattle.std.proofs.Common.{◌≡◌, ℕ, Bool, true, false, cond, List, [], ◌∷◌, Some, refl, sym, ap, subst, ◌∙◌}
+use Rattle.std.proofs.Common.{◌≡◌, ℕ, Bool, true, false, cond, List, [], ◌∷◌, Option, Some, None, refl, sym, ap, subst, ◌∙◌}
 use Rattle.std.specs.Prelude.{Vec}
 use Rattle.std.specs.declared.cmp.Ordering.{Ordering}
 use Rattle.std.specs.declared.cmp.Ordering.TheVariants.{Less, Equal, Greater}
@@ -61,3 +61,18 @@ pub meaning_read : (table : TableOf ℕ) (name key text : List ℕ) (entry : Ent
 meaning_read table name key text entry v g d t n k =
     subst (λ (q : List ℕ). IsMeaning (Some v) q (macros_of table q)) (sym k)
     (ap (option_map (λ (e : EntryValue ℕ). sound_def (def_of_text e.text))) (sym g) ∙ ap Some (ap (λ x. sound_def (def_of_text x)) (sym t) ∙ sym d), n)
+
+-- the same of another value with this name and definition, where the name may stand for nothing
+pub meaning_same : (v w : Option Known) (q : List ℕ) (said : _) → option_map known_value w ≡ option_map known_value v → IsMeaning v q said → IsMeaning w q said
+meaning_same None None q said e m = m
+meaning_same None (Some w) q said e m = cc
+meaning_same (Some v) None q said e m = cc
+meaning_same (Some v) (Some w) q said e m = means_same v w q said (values_same (known_value w) (known_value v) e) m
+  where
+    values_same : {X : Type 0} (x y : X) → Some x ≡ Some y → x ≡ y
+    values_same x y e = cc
+
+-- what was looked up is what the table says
+pub recent_right : (table said : TableOf ℕ) (v w : Option Known) (name key : List ℕ) → table ≡ said → key ≡ name → option_map known_value w ≡ option_map known_value v → IsMeaning v name (macros_of said name) → IsMeaning w key (macros_of table key)
+recent_right table said v w name key t k e m =
+    subst (λ (q : List ℕ). IsMeaning w q (macros_of table q)) (sym k) (subst (λ (x : TableOf ℕ). IsMeaning w name (macros_of x name)) (sym t) (meaning_same v w name (macros_of said name) e m))

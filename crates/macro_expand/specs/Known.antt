@@ -8,6 +8,7 @@ use Rattle.macro_table.specs.Definitions.{DefValue}
 use Rattle.macro_table.specs.Tables.{TableOf}
 use Rattle.macro_expand.specs.declared.known.Known.{Known}
 use Rattle.macro_expand.specs.declared.made.Made.{Made}
+use Rattle.macro_expand.specs.declared.recent.Recent.{Recent}
 use Rattle.macro_expand.specs.Marked.{with_name}
 use Rattle.macro_expand.specs.Macros.{macros_of}
 use Rattle.macro_expand.specs.States.{name_text, hidden_names}
@@ -36,3 +37,8 @@ IsMade made = hidden_names made.with ≡ with_name (name_text made.name) (hidden
 -- what is remembered is what the table says
 abbrev pub AreKnown : {A : Type 0} → TableOf ℕ → List (Vec ℕ A × Known) → Type 0
 AreKnown table entries = AllByRecursion (λ e. IsMeaning (Some e.1) e.0.items (macros_of table e.0.items)) entries
+
+-- what is remembered of a name is what the table says
+abbrev pub IsRecent : TableOf ℕ → Option Recent → Type 0
+IsRecent table None = Unit {0}
+IsRecent table (Some r) = IsMeaning r.known r.name.items (macros_of table r.name.items)

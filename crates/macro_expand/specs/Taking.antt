@@ -1,8 +1,10 @@
 -- What the head of the first list is, as the code finds it.
-use Rattle.std.specs.Prelude.{ℕ, ◌+◌, ◌≡◌, ◌⊎◌, suc, Bool, true, false, List, [], ◌∷◌, length, take, drop, Option, Some, None, Result, Ok, Err}
+use Rattle.std.specs.Prelude.{ℕ, ◌+◌, ◌≡◌, ◌⊎◌, suc, Bool, true, false, not, ◌&&◌, if◌then◌else◌, codes, bytes_eq, List, [], ◌∷◌, length, take, drop, Option, Some, None, Result, Ok, Err}
 use Rattle.macro_table.specs.Definitions.{DefValue}
 use Rattle.macro_expand.specs.declared.fault.ExpandFault.{ExpandFault}
 use Rattle.macro_expand.specs.declared.fault.ExpandFault.TheVariants.{NoMemory}
+use Rattle.macro_expand.specs.declared.here.Here.{Here}
+use Rattle.macro_expand.specs.declared.known.Known.{Known}
 use Rattle.macro_expand.specs.declared.head.Replacing.{Replacing}
 use Rattle.macro_expand.specs.declared.head.NextHead.{NextHead}
 use Rattle.macro_expand.specs.declared.head.NextHead.TheVariants as next
@@ -10,9 +12,9 @@ use Rattle.macro_expand.specs.declared.slots.Cut.{Cut}
 use Rattle.macro_expand.specs.declared.part.Part.{Part}
 use Rattle.macro_expand.specs.declared.part.Part.TheVariants.{Opens, Closes, Comma, Inner}
 use Rattle.macro_expand.specs.Marked.{Marked}
-use Rattle.macro_expand.specs.Macros.{params_of}
+use Rattle.macro_expand.specs.Macros.{Macros, params_of}
 use Rattle.macro_expand.specs.Calls.{Closed, closed, arguments, Waiting, waiting, first_list, other_lists}
-use Rattle.macro_expand.specs.Heads.{Call, Head, Finished, Stays, Replaced, Fails}
+use Rattle.macro_expand.specs.Heads.{Call, Head, Finished, Stays, Replaced, Fails, seen_head}
 use Rattle.macro_expand.specs.States.{marked, hidden_names}
 
 -- how much of a weight the arguments of a call have
@@ -34,6 +36,15 @@ IsHead (Ok next.Finished) old new head = (head ≡ Finished) × (new ≡ other_l
 IsHead (Ok (next.Stays h)) old new head = (head ≡ Stays (marked h) (first_list new)) × (other_lists new ≡ other_lists old)
 IsHead (Ok (next.Replaced r)) old new head = (head ≡ Replaced (call_of r new)) × (skip r new ≡ other_lists old)
 IsHead (Err fault) old new head = (fault ≡ NoMemory) ⊎ (head ≡ Fails fault)
+
+-- whether a name stands for nothing, where this is known of it, and not for its place either
+abbrev pub is_unknown : Option Known → List ℕ → Bool
+is_unknown None name = not (bytes_eq name (codes "__LINE__")) && not (bytes_eq name (codes "__FILE__"))
+is_unknown (Some known) name = false
+
+-- the head of a list that begins with a name
+abbrev pub named_head : Macros → Here → Marked → List Marked → Head
+named_head macros here m rest = if m.hides m.token.text then Stays m rest else seen_head macros here m rest
 
 -- whether there is no named parameter
 abbrev pub no_named : List (List ℕ) → Bool

@@ -184,6 +184,7 @@ pub fn paste_follows(tokens: &[Token]) -> bool
 }
 
 /// The pieces of a replacement list.
+#[inline(never)]
 pub fn put_tokens(
     alloc: Global,
     name: &[u8],

@@ -3,10 +3,11 @@ ghost use Rattle.std.specs.Prelude.{◌≡◌, ◌∷◌, ◌++◌, [], IfOk, On
 ghost use Rattle.macro_expand.specs.Marked.{with_name as with_name_of, intersection as intersection_of};
 ghost use Rattle.macro_expand.specs.Macros.{macros_of, named_params};
 ghost use Rattle.macro_expand.specs.Calls.{first_list, other_lists, closed, Closed};
-ghost use Rattle.macro_expand.specs.Heads.{is_kept, in_file, instead, head_of, seen_head as seen_head_of, macro_head as macro_head_of, call_head as call_head_of};
+ghost use Rattle.macro_expand.specs.Heads.{in_file, instead, head_of, seen_head as seen_head_of, macro_head as macro_head_of, call_head as call_head_of};
 ghost use Rattle.macro_expand.specs.States.{marked, hidden_names, name_text};
 ghost use Rattle.macro_expand.specs.Slots.{lists, first_part};
-ghost use Rattle.macro_expand.specs.Taking.{IsHead, IsCall, no_named, closes};
+ghost use Rattle.macro_expand.specs.Known.{IsMeaning};
+ghost use Rattle.macro_expand.specs.Taking.{IsHead, IsCall, no_named, closes, is_unknown, named_head as named_head_of};
 
 use crate::fault::ExpandFault;
 use crate::here::Here;
@@ -46,14 +47,15 @@ pub enum NextHead {
     Replaced(Replacing),
 }
 
-/// Whether the token is no identifier, or a name in its own hide set.
-fn is_kept(hidden: &Hidden) -> bool
-    ensures { result ≡ is_kept (marked hidden.now) }
+/// Whether the name stands for nothing, and not for its place either.
+fn is_unknown(known: &Option<Known>, name: &[u8]) -> bool
+    ensures { result ≡ is_unknown known.now name.now }
 {
-    !is_identifier(hidden.token.kind) || hides(&hidden.hides, hidden.token.text.as_slice())
+    known.is_none() && name != b"__LINE__".as_slice() && name != b"__FILE__".as_slice()
 }
 
 /// The number of the line.
+#[inline(never)]
 fn line_text(alloc: Global, line: u64) -> Result<Bytes, AllocError>
     ensures { IfOk result (λ text. text ≡ decimal line) }
 {
@@ -78,6 +80,7 @@ fn push_in_file(text: &mut Vec<u8>, byte: u8) -> Result<(), AllocError>
 }
 
 /// The path as a string.
+#[inline(never)]
 fn file_text(alloc: Global, file: &[u8]) -> Result<Bytes, AllocError>
     ensures { IfOk result (λ text. text ≡ 34 ∷ flat_map in_file file.now ++ 34 ∷ []) }
 {
@@ -120,10 +123,31 @@ pub fn take_head(
     let Some(hidden) = next_token(slots) else {
         return Ok(NextHead::Finished);
     };
-    if is_kept(&hidden) {
+    if !is_identifier(hidden.token.kind) {
         return Ok(NextHead::Stays(hidden));
     }
-    let head = seen_head(alloc, here, definitions, hidden, slots)?;
+    let head = named_head(alloc, here, definitions, hidden, slots)?;
+    Ok(head)
+}
+
+/// The head of a list that begins with a name. Most names stand for nothing, and then what their tokens hide is not
+/// looked at.
+fn named_head(
+    alloc: Global,
+    here: &Here,
+    definitions: &mut Definitions,
+    hidden: Hidden,
+    slots: &mut Stack,
+) -> Result<NextHead, ExpandFault>
+    ensures head { IsHead result (lists slots.old) (lists slots.new) (named_head_of (macros_of definitions.old) here.now (marked hidden) (first_list (lists slots.old))) }
+    ensures kept { definitions.new ≡ definitions.old }
+{
+    let name = hidden.token.text.as_slice();
+    let known = definitions.look_up(alloc, name)?;
+    if is_unknown(&known, name) || hides(&hidden.hides, name) {
+        return Ok(NextHead::Stays(hidden));
+    }
+    let head = seen_head(alloc, here, definitions, known, hidden, slots)?;
     Ok(head)
 }
 
@@ -132,9 +156,11 @@ fn seen_head(
     alloc: Global,
     here: &Here,
     definitions: &mut Definitions,
+    known: Option<Known>,
     hidden: Hidden,
     slots: &mut Stack,
 ) -> Result<NextHead, ExpandFault>
+    requires { IsMeaning known hidden.token.text (macros_of definitions.old hidden.token.text) }
     ensures head { IsHead result (lists slots.old) (lists slots.new) (seen_head_of (macros_of definitions.old) here.now (marked hidden) (first_list (lists slots.old))) }
     ensures kept { definitions.new ≡ definitions.old }
 {
@@ -147,7 +173,7 @@ fn seen_head(
         let text = file_text(alloc, here.file.as_slice())?;
         return Ok(NextHead::Stays(put_instead(alloc, Kind::Str, text, hidden)?));
     }
-    let Some(known) = definitions.look_up(alloc, name)? else {
+    let Some(known) = known else {
         return Ok(NextHead::Stays(hidden));
     };
     let Known { name, def, number } = known;
@@ -248,6 +274,7 @@ fn call_hides(
 }
 
 /// The head of a list that begins with a call.
+#[inline(never)]
 fn call_head(
     alloc: Global,
     definitions: &mut Definitions,

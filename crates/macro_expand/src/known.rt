@@ -13,6 +13,7 @@ ghost use Rattle.macro_expand.specs.Known.{known_def, known_value, def_value, Is
 
 use crate::hide::{HideSet, Name};
 use crate::made::{Made, add_name, hide_name};
+use crate::recent::{Recent, make_places, put_recent, recent_of};
 use mac_base::{Bytes, NoMemory};
 use macro_table::{Def, Table, TextFault, def_of_text};
 use std::alloc::{AllocError, Global};
@@ -49,6 +50,16 @@ fn same_known(known: &Known) -> Result<Known, NoMemory>
     }
 }
 
+/// The same, of a name that may stand for nothing.
+fn same_meaning(known: &Option<Known>) -> Result<Option<Known>, NoMemory>
+    ensures { IfOk result (λ same. option_map known_value same ≡ option_map known_value known.now) }
+{
+    match known {
+        None => Ok(None),
+        Some(known) => Ok(Some(same_known(known)?)),
+    }
+}
+
 /// The definition that a text is.
 fn read_def(alloc: Global, text: &[u8]) -> Result<Option<Rc<Def>>, NoMemory>
     ensures { IfOk result (λ def. option_map def_value def ≡ sound_def (def_of_text text.now)) }
@@ -79,12 +90,13 @@ fn remember(known: &mut BTreeMap<Vec<u8>, Known>, name: Vec<u8>, one: Known) -> 
     }
 }
 
-/// A table, the definitions that were read from it, and the hide sets that were last made for their names. Contracts see
-/// the table.
+/// A table, the definitions that were read from it, names that were looked up, and the hide sets that were last made for
+/// names. Contracts see the table.
 #[derive(Drop)]
 pub struct Definitions<'a> {
     table: &'a Table,
     known: BTreeMap<Vec<u8>, Known>,
+    recent: Vec<Option<Recent>>,
     sets: Vec<Made>,
 }
 
@@ -92,7 +104,7 @@ impl<'a> Model for Definitions<'a> {
     ghost use Rattle.std.specs.Prelude.{ℕ, All};
     ghost use Rattle.macro_table.specs.Tables.{TableOf};
     ghost use Rattle.macro_table.specs.Codes.{coded_table};
-    ghost use Rattle.macro_expand.specs.Known.{AreKnown, IsMade};
+    ghost use Rattle.macro_expand.specs.Known.{AreKnown, IsMade, IsRecent};
 
     ghost Value = { TableOf ℕ };
 
@@ -100,7 +112,7 @@ impl<'a> Model for Definitions<'a> {
 
     ghost view = { λ d. d.table.now };
 
-    ghost invariant = { λ d. AreKnown d.table.now d.known.entries × All IsMade d.sets.items };
+    ghost invariant = { λ d. AreKnown d.table.now d.known.entries × All IsMade d.sets.items × All (IsRecent d.table.now) d.recent.items };
 }
 
 impl<'a> Definitions<'a> {
@@ -111,12 +123,33 @@ impl<'a> Definitions<'a> {
         Definitions {
             table,
             known: BTreeMap::new(alloc),
+            recent: Vec::new(alloc),
             sets: Vec::new(alloc),
         }
     }
 
     /// What the name stands for, with its name.
     pub fn look_up(&mut self, alloc: Global, name: &[u8]) -> Result<Option<Known>, NoMemory>
+        ensures found { IfOk result (λ known. IsMeaning known name.now (macros_of self.old name.now)) }
+        ensures kept { self.new ≡ self.old }
+    {
+        if let Some(one) = recent_of(self.recent.as_slice(), name) {
+            let same = same_meaning(&one.known)?;
+            return Ok(same);
+        }
+        let known = self.read(alloc, name)?;
+        let one = Recent {
+            name: Vec::from_slice(alloc, name)?,
+            known: same_meaning(&known)?,
+        };
+        make_places(alloc, &mut self.recent)?;
+        put_recent(&mut self.recent, one);
+        Ok(known)
+    }
+
+    /// The same, from the definitions that were read, and else from the table.
+    #[inline(never)]
+    fn read(&mut self, alloc: Global, name: &[u8]) -> Result<Option<Known>, NoMemory>
         ensures found { IfOk result (λ known. IsMeaning known name.now (macros_of self.old name.now)) }
         ensures kept { self.new ≡ self.old }
     {
@@ -139,6 +172,7 @@ impl<'a> Definitions<'a> {
         remember(&mut self.known, Vec::from_slice(alloc, name)?, known)?;
         Ok(Some(same))
     }
+
     /// The set with the name of this number more.
     pub fn hide_name(
         &mut self,

@@ -20,6 +20,7 @@ mod params;
 mod part;
 mod pasting;
 mod plain;
+mod recent;
 mod slots;
 mod stack;
 mod strings;

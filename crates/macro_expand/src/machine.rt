@@ -14,7 +14,7 @@ use crate::head::{NextHead, Replacing, take_head};
 use crate::here::Here;
 use crate::hidden::Hidden;
 use crate::known::Definitions;
-use crate::params::{param_at, stands_bound, stands_free};
+use crate::params::{param_at, param_count, stands_bound, stands_free};
 use crate::stack::{Stack, copy_list, drop_lists, put_back, take_list};
 use crate::substitute::substitute;
 use mac_base::{Bytes, NoMemory};
@@ -47,6 +47,7 @@ pub struct Machine {
 }
 
 /// Replaces a name whose arguments are all there.
+#[inline(never)]
 fn replace(
     alloc: Global,
     machine: &mut Machine,
@@ -114,6 +115,7 @@ fn plain_copy(alloc: Global, kept: bool, slots: &Stack) -> Result<Vec<Hidden>, N
 }
 
 /// Goes on with a call of whose arguments these are there.
+#[inline(never)]
 fn advance(
     alloc: Global,
     machine: &mut Machine,
@@ -152,6 +154,20 @@ fn advance(
     Ok(())
 }
 
+/// Begins with a call. A macro without parameters is replaced at once.
+fn begin(alloc: Global, machine: &mut Machine, call: Replacing) -> Result<(), ExpandFault>
+    requires work { machine.old.work ≤ limit }
+    ensures ok { OnOk result ((macros : Macros) (here : HereValue) → GoesOn macros here (replacing macros here machine.old call []) (suc (replacing_size machine.old call)) machine.new) }
+    ensures err { IfErr result (λ fault. (macros : Macros) (here : HereValue) → IsFaultOf fault (replacing macros here machine.old call [])) }
+{
+    if call.next >= param_count(&call.def) {
+        replace(alloc, machine, &call, &[])?;
+        return Ok(());
+    }
+    advance(alloc, machine, call, SmallVec::new(alloc))?;
+    Ok(())
+}
+
 /// One step. It answers whether there are more.
 fn step(
     alloc: Global,
@@ -170,7 +186,7 @@ fn step(
             Ok(true)
         }
         NextHead::Replaced(call) => {
-            advance(alloc, machine, call, SmallVec::new(alloc))?;
+            begin(alloc, machine, call)?;
             Ok(true)
         }
         NextHead::Finished => {

@@ -77,6 +77,7 @@ fn is_joins(cell: &Cell) -> bool
 }
 
 /// The pieces with each `##` done, from left to right. They come in reverse order.
+#[inline(never)]
 pub fn paste_cells(alloc: Global, mut rest: Vec<Cell>) -> Result<Vec<Cell>, ExpandFault>
     ensures { Answers (λ cells. map piece_of cells.items) result (pasted (backwards piece_of rest.items)) }
 {
@@ -144,6 +145,7 @@ fn hide_all(
 }
 
 /// The tokens of the pieces, with these names hidden, the first with this mark.
+#[inline(never)]
 pub fn finish_cells(
     alloc: Global,
     space: bool,
