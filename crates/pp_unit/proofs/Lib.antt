@@ -1,4 +1,5 @@
 pub mod RecordLemmas
+pub mod KnownLemmas
 pub mod Traces
 pub mod MarkLemmas
 pub mod AgreeLemmas

@@ -1,5 +1,13 @@
 -- What the code keeps beside what it has recorded, and how its calls answer.
-use Rattle.std.specs.Prelude.{◌≡◌, ◌⊎◌, ℕ, ◌≤◌, List, [], ◌∷◌, ◌++◌, length, Result, Ok, Err}
+use Rattle.std.specs.Prelude.{◌≡◌, ◌⊎◌, ℕ, ◌<◌, ◌≤◌, ◌==◌, Bool, ◌&&◌, List, [], ◌∷◌, ◌++◌, length, position, Some, Result, Ok, Err}
+use Rattle.std.specs.declared.cmp.Ordering.{Ordering}
+use Rattle.std.specs.Ordering.{nat_cmp, ordering_then}
+use Rattle.std.specs.Cmp.Lexicographic.{slice_cmp}
+use Rattle.std.specs.List.{AllByRecursion, list_any, slice_index_or}
+use Rattle.std.specs.FinMap as finite
+use Rattle.std.specs.BTreeSet.{BTreeSet, contains}
+use Rattle.mac_io.specs.declared.headers.FileId.{FileId}
+use Rattle.pp_tokens.specs.Kinds.{same}
 use Rattle.macro_table.specs.Tables.{TableOf}
 use Rattle.macro_table.specs.Items.{Item}
 use Rattle.macro_table.specs.FileTable.{table_of}
@@ -18,6 +26,28 @@ pub record IsSound (items : List (Item ℕ)) (files : List (List ℕ)) (text : �
   pub short : text ≤ text_limit
   pub paths : length files ≤ length items
   pub texts : SameTexts kept (table_of items)
+
+-- the number that a map has for a path says where it stands first
+abbrev pub AreNumbered : finite.FinMap (slice_cmp nat_cmp) ℕ → List (List ℕ) → Type 0
+AreNumbered numbers paths = (path : List ℕ) → finite.get numbers path ≡ position (same path) paths
+
+-- the file of a store, by the number of its name
+abbrev pub file_of : List (List ℕ) → ℕ × ℕ → FileId
+file_of names file = record { store = file.0; name = slice_index_or names file.1 [] }
+
+-- the order of such pairs
+abbrev pub pair_cmp : ℕ × ℕ → ℕ × ℕ → Ordering
+pair_cmp a b = ordering_then (nat_cmp a.0 b.0) (nat_cmp a.1 b.1)
+
+-- whether they are the same
+abbrev pub same_pair : ℕ × ℕ → ℕ × ℕ → Bool
+same_pair a b = (a.0 == b.0) && (a.1 == b.1)
+
+-- no name is there twice, each file has one of them, and a set has the same files
+pub record AreKnown (names : List (List ℕ)) (files : List (ℕ × ℕ)) (known : BTreeSet (ℕ × ℕ)) : Type 0 where
+  pub different : (number : ℕ) → number < length names → position (same (slice_index_or names number [])) names ≡ Some number
+  pub named : AllByRecursion (λ (file : ℕ × ℕ). file.1 < length names) files
+  pub found : (file : ℕ × ℕ) → contains pair_cmp known file ≡ list_any (same_pair file) files
 
 -- whether an event with so much text is within the limits
 abbrev pub Admits : Seen → Item ℕ → Result (Unit {0}) PpKind → Type 0

@@ -1,12 +1,10 @@
-ghost use Rattle.std.specs.Prelude.{◌≡◌, ◌+◌, ◌<◌, ◌≤◌, ℕ, [], ◌∷◌, ◌++◌, length, position, Ok, IfOk, OnOk, IfSome, ◌^◌};
+ghost use Rattle.std.specs.Prelude.{◌≡◌, ◌+◌, ◌<◌, ◌≤◌, ℕ, [], ◌∷◌, ◌++◌, length, Ok, IfOk, OnOk};
 ghost use Rattle.std.specs.Option.{option_copied};
-ghost use Rattle.std.specs.List.{list_any};
-ghost use Rattle.pp_tokens.specs.Kinds.{same};
 ghost use Rattle.macro_table.specs.Answers.{Answers};
 ghost use Rattle.macro_table.specs.Items.{Item, Define, Undef, Start, End};
 ghost use Rattle.pp_directives.specs.Defined.{is_defined, resolved};
 ghost use Rattle.pp_unit.specs.declared.fault.PpKind.TheVariants.{NoMemory as RanOut};
-ghost use Rattle.pp_unit.specs.Seen.{Seen, table, macros, text_in, text_length, texts_length, event_limit, text_limit, added, started, number_or, number_of, with_path, same_file, is_once, with_once};
+ghost use Rattle.pp_unit.specs.Seen.{Seen, table, macros, text_in, text_length, texts_length, event_limit, text_limit, added, started, number_of, is_once, with_once};
 ghost use Rattle.pp_directives.specs.declared.fault.ExprFault.TheVariants.{NoMemory as ExprRanOut};
 ghost use Rattle.macro_expand.specs.Answering.{IsAnswer};
 ghost use Rattle.macro_expand.specs.Rules.{ExpandsTo};
@@ -14,7 +12,9 @@ ghost use Rattle.pp_unit.specs.Walk.{AreSeen};
 ghost use Rattle.pp_unit.specs.Recorded.{Admits};
 
 use crate::fault::PpKind;
-use mac_base::{Bytes, Event, EventList, Events, Frames, NoMemory, Paths, Place};
+use crate::once_files::OnceFiles;
+use crate::path_numbers::PathNumbers;
+use mac_base::{Bytes, Event, EventList, Events, Frames, NoMemory, Place};
 use mac_io::FileId;
 use macro_expand::{ExpandFault, Here, expand};
 use macro_table::Table;
@@ -36,8 +36,8 @@ pub struct Record {
     list: EventList,
     /// The bytes of all texts and names.
     text: usize,
-    files: Paths,
-    once: Vec<FileId>,
+    files: PathNumbers,
+    once: OnceFiles,
     /// The places of its entries are empty: only texts count here.
     table: Table,
 }
@@ -49,7 +49,7 @@ impl Model for Record {
 
     ghost Value = { Seen };
 
-    ghost view = { λ r. record { items = map item_of r.list; files = r.files; once = r.once.items } };
+    ghost view = { λ r. record { items = map item_of r.list; files = r.files; once = r.once } };
 
     ghost invariant = { λ r. IsSound (map item_of r.list) r.files r.text r.table };
 }
@@ -63,8 +63,8 @@ impl Record {
             alloc,
             list: EventList::new(alloc),
             text: 0,
-            files: Paths::new(alloc),
-            once: Vec::new(alloc),
+            files: PathNumbers::new(alloc),
+            once: OnceFiles::new(alloc),
             table: Table::new(alloc),
         }
     }
@@ -169,7 +169,6 @@ impl Record {
         ensures { Answers RanOut result (started self line path.now) }
     {
         self.admit(0)?;
-        let place = place_of(self.files.as_slice(), path);
         let Record {
             alloc,
             mut list,
@@ -178,8 +177,8 @@ impl Record {
             once,
             table,
         } = self;
-        let file = number_or(files.len(), place);
-        let files = with_path(files, path, place, alloc)?;
+        let file = files.number_of(path) as u32;
+        let files = files.with_path(path)?;
         list.push(Event::Start { line, file })?;
         Ok(Record {
             alloc,
@@ -195,14 +194,14 @@ impl Record {
     pub fn number_of(&self, path: &[u8]) -> u32
         ensures { result ≡ number_of self.now path.now }
     {
-        number_or(self.files.len(), place_of(self.files.as_slice(), path))
+        self.files.number_of(path) as u32
     }
 
     /// Whether a file contributes nothing any more.
     pub fn is_once(&self, id: &FileId) -> bool
         ensures { result ≡ is_once self.now id.now }
     {
-        is_among(self.once.as_slice(), id)
+        self.once.has(id)
     }
 
     /// The file contributes nothing from now on.
@@ -214,13 +213,10 @@ impl Record {
             list,
             text,
             files,
-            mut once,
+            once,
             table,
         } = self;
-        once.push(FileId {
-            store: id.store,
-            name: id.name.copy()?,
-        })?;
+        let once = once.with_file(id)?;
         Ok(Record {
             alloc,
             list,
@@ -272,48 +268,9 @@ impl Record {
         ensures { AreSeen result self }
     {
         let Record { list, files, .. } = self;
-        Events { list, files }
+        Events {
+            list,
+            files: files.into_paths(),
+        }
     }
-}
-
-/// Where a path stands among others.
-fn place_of(files: &[Bytes], path: &[u8]) -> Option<usize>
-    ensures { result ≡ position (same path.now) files.now }
-{
-    files.iter().position(|file| path == file.as_slice())
-}
-
-/// The number, or the next.
-fn number_or(next: usize, place: Option<usize>) -> u32
-    requires few { next < 2 ^ 32 }
-    requires there { IfSome place (λ number. number < 2 ^ 32) }
-    ensures { result ≡ number_or next place }
-{
-    match place {
-        Some(number) => number as u32,
-        None => next as u32,
-    }
-}
-
-/// The paths with this one, which stands there or not.
-fn with_path(
-    files: Paths,
-    path: &[u8],
-    place: Option<usize>,
-    alloc: Global,
-) -> Result<Paths, NoMemory>
-    ensures { IfOk result (λ paths. paths ≡ with_path files path.now place) }
-{
-    let mut files = files;
-    if place.is_none() {
-        files.push(Bytes::from_vec(Vec::from_slice(alloc, path)?))?;
-    }
-    Ok(files)
-}
-
-/// Whether a file is among others.
-fn is_among(files: &[FileId], id: &FileId) -> bool
-    ensures { result ≡ list_any (same_file id.now) files.now }
-{
-    files.iter().any(|file| id.store == file.store && id.name.as_slice() == file.name.as_slice())
 }
