@@ -2,8 +2,8 @@
 use Rattle.std.proofs.Common.{◌≡◌, ℕ, Bool, true, false, cond, ◌||◌, ◌&&◌, List, [], ◌∷◌, ◌++◌, refl, sym, ap, ◌∙◌, bytes_eq}
 use Rattle.std.proofs.Math.Path.{fun_ext}
 use Rattle.std.proofs.lemmas.Slice.Eq.{bytes_eq-Decides}
-use Rattle.macro_expand.specs.Marked.{Names, union, intersection}
-use Rattle.macro_expand.specs.States.{members, covers_names, same_names, missing_names, common_names}
+use Rattle.macro_expand.specs.Marked.{Names, with_name, union, intersection}
+use Rattle.macro_expand.specs.States.{members, covers_names, missing_names, common_names, AreAmong}
 
 and_first : (p q : Bool) → (p && q) ≡ true → p ≡ true
 and_first true q h = refl
@@ -17,25 +17,18 @@ and_second false q h = cc
 at_equal : (f : Names) (x n : List ℕ) (b : Bool) → f x ≡ b → bytes_eq x n ≡ true → f n ≡ b
 at_equal f x n b h e = ap f (sym ((bytes_eq-Decides x n).0 e)) ∙ h
 
--- lists of the same names are the same
-pub alike : (xs ys : List (List ℕ)) → same_names xs ys ≡ true → xs ≡ ys
-alike [] [] e = refl
-alike [] (y ∷ ys) e = cc
-alike (x ∷ xs) [] e = cc
-alike (x ∷ xs) (y ∷ ys) e = ap (λ n. n ∷ xs) ((bytes_eq-Decides x y).0 (and_first (bytes_eq x y) (same_names xs ys) e)) ∙ ap (λ l. y ∷ l) (alike xs ys (and_second (bytes_eq x y) (same_names xs ys) e))
-
 -- what is covered is a member
-covered : (a b : List (List ℕ)) (n : List ℕ) → covers_names a b ≡ true → members b n ≡ true → members a n ≡ true
-covered a [] n c h = cc
-covered a (x ∷ xs) n c h = go (bytes_eq x n) refl h (λ k. covered a xs n (and_second (members a x) (covers_names a xs) c) k)
+pub covered : (f : Names) (b : List (List ℕ)) → covers_names f b ≡ true → AreAmong (members b) f
+covered f [] c n h = cc
+covered f (x ∷ xs) c n h = go (bytes_eq x n) refl h (λ k. covered f xs (and_second (f x) (covers_names f xs) c) n k)
   where
-    go : (t : Bool) → bytes_eq x n ≡ t → (t || members xs n) ≡ true → (members xs n ≡ true → members a n ≡ true) → members a n ≡ true
-    go true k h r = at_equal (members a) x n true (and_first (members a x) (covers_names a xs) c) k
+    go : (t : Bool) → bytes_eq x n ≡ t → (t || members xs n) ≡ true → (members xs n ≡ true → f n ≡ true) → f n ≡ true
+    go true k h r = at_equal f x n true (and_first (f x) (covers_names f xs) c) k
     go false k h r = r h
 
 -- a set that has all of another is their union
-pub union_covered : (a b : List (List ℕ)) → covers_names a b ≡ true → members a ≡ union (members a) (members b)
-union_covered a b c = fun_ext (λ n. go n (members a n) (members b n) (covered a b n c))
+union_covered : (f g : Names) → AreAmong g f → f ≡ union f g
+union_covered f g c = fun_ext (λ n. go n (f n) (g n) (c n))
   where
     go : (n : List ℕ) (p q : Bool) → (q ≡ true → p ≡ true) → p ≡ (p || q)
     go n true q h = refl
@@ -43,8 +36,8 @@ union_covered a b c = fun_ext (λ n. go n (members a n) (members b n) (covered a
     go n false false h = refl
 
 -- a set all of which is in another is their intersection
-pub intersection_covered : (a b : List (List ℕ)) → covers_names b a ≡ true → members a ≡ intersection (members a) (members b)
-intersection_covered a b c = fun_ext (λ n. go n (members a n) (members b n) (covered b a n c))
+intersection_covered : (f g : Names) → AreAmong f g → f ≡ intersection f g
+intersection_covered f g c = fun_ext (λ n. go n (f n) (g n) (c n))
   where
     go : (n : List ℕ) (p q : Bool) → (p ≡ true → q ≡ true) → p ≡ (p && q)
     go n true q h = sym (h refl)
@@ -58,9 +51,19 @@ members-append (x ∷ xs) b n = or_more (bytes_eq x n) (members xs n) (members b
     or_more true p q r e = refl
     or_more false p q r e = e
 
-missing_here : (a b : List (List ℕ)) (n : List ℕ) → (members a n || members (missing_names a b) n) ≡ (members a n || members b n)
-missing_here a [] n = refl
-missing_here a (x ∷ xs) n = go (members a x) refl (bytes_eq x n) refl (missing_here a xs n)
+-- a name at the end is a name more
+pub name_more : (f : Names) (a : List (List ℕ)) (x : List ℕ) → members a ≡ f → members (a ++ x ∷ []) ≡ with_name x f
+name_more f a x e = fun_ext (λ n. members-append a (x ∷ []) n ∙ turn (members a n) (bytes_eq x n)) ∙ ap (with_name x) e
+  where
+    turn : (p t : Bool) → (p || (t || false)) ≡ (t || p)
+    turn true true = refl
+    turn true false = refl
+    turn false true = refl
+    turn false false = refl
+
+missing_here : (f : Names) (b : List (List ℕ)) (n : List ℕ) → (f n || members (missing_names f b) n) ≡ (f n || members b n)
+missing_here f [] n = refl
+missing_here f (x ∷ xs) n = go (f x) refl (bytes_eq x n) refl (missing_here f xs n)
   where
     keep : (t p q r : Bool) → (p || q) ≡ (p || r) → (p || (t || q)) ≡ (p || (t || r))
     keep true p q r e = refl
@@ -70,18 +73,14 @@ missing_here a (x ∷ xs) n = go (members a x) refl (bytes_eq x n) refl (missing
     has true q e = refl
     has false q e = cc
 
-    go : (k : Bool) → members a x ≡ k → (t : Bool) → bytes_eq x n ≡ t → (members a n || members (missing_names a xs) n) ≡ (members a n || members xs n) → (members a n || members (cond k (missing_names a xs) (x ∷ missing_names a xs)) n) ≡ (members a n || (t || members xs n))
-    go true e true f r = let h = at_equal (members a) x n true e f in has (members a n) (members (missing_names a xs) n) h ∙ sym (has (members a n) true h)
-    go true e false f r = r
-    go false e t f r = ap (λ v. members a n || (v || members (missing_names a xs) n)) f ∙ keep t (members a n) (members (missing_names a xs) n) (members xs n) r
+    go : (k : Bool) → f x ≡ k → (t : Bool) → bytes_eq x n ≡ t → (f n || members (missing_names f xs) n) ≡ (f n || members xs n) → (f n || members (cond k (missing_names f xs) (x ∷ missing_names f xs)) n) ≡ (f n || (t || members xs n))
+    go true e true h r = let y = at_equal f x n true e h in has (f n) (members (missing_names f xs) n) y ∙ sym (has (f n) true y)
+    go true e false h r = r
+    go false e t h r = ap (λ v. f n || (v || members (missing_names f xs) n)) h ∙ keep t (f n) (members (missing_names f xs) n) (members xs n) r
 
--- what is missing, behind the rest, makes the union
-pub union_joined : (a b : List (List ℕ)) → members (a ++ missing_names a b) ≡ union (members a) (members b)
-union_joined a b = fun_ext (λ n. members-append a (missing_names a b) n ∙ missing_here a b n)
-
-common_here : (a b : List (List ℕ)) (n : List ℕ) → members (common_names a b) n ≡ (members a n && members b n)
-common_here [] b n = refl
-common_here (x ∷ xs) b n = go (members b x) refl (bytes_eq x n) refl (common_here xs b n)
+common_here : (a : List (List ℕ)) (g : Names) (n : List ℕ) → members (common_names a g) n ≡ (members a n && g n)
+common_here [] g n = refl
+common_here (x ∷ xs) g n = go (g x) refl (bytes_eq x n) refl (common_here xs g n)
   where
     none : (p q r : Bool) → r ≡ (p && q) → q ≡ false → r ≡ q
     none true q r e h = e
@@ -90,25 +89,22 @@ common_here (x ∷ xs) b n = go (members b x) refl (bytes_eq x n) refl (common_h
     has : (p q : Bool) → q ≡ true → (true || p) ≡ q
     has p q h = sym h
 
-    go : (k : Bool) → members b x ≡ k → (t : Bool) → bytes_eq x n ≡ t → members (common_names xs b) n ≡ (members xs n && members b n) → members (cond k (x ∷ common_names xs b) (common_names xs b)) n ≡ ((t || members xs n) && members b n)
-    go true e true f r = ap (λ v. v || members (common_names xs b) n) f ∙ has (members (common_names xs b) n) (members b n) (at_equal (members b) x n true e f)
-    go true e false f r = ap (λ v. v || members (common_names xs b) n) f ∙ r
-    go false e true f r = none (members xs n) (members b n) (members (common_names xs b) n) r (at_equal (members b) x n false e f)
+    go : (k : Bool) → g x ≡ k → (t : Bool) → bytes_eq x n ≡ t → members (common_names xs g) n ≡ (members xs n && g n) → members (cond k (x ∷ common_names xs g) (common_names xs g)) n ≡ ((t || members xs n) && g n)
+    go true e true f r = ap (λ v. v || members (common_names xs g) n) f ∙ has (members (common_names xs g) n) (g n) (at_equal g x n true e f)
+    go true e false f r = ap (λ v. v || members (common_names xs g) n) f ∙ r
+    go false e true f r = none (members xs n) (g n) (members (common_names xs g) n) r (at_equal g x n false e f)
     go false e false f r = r
 
--- the common names make the intersection
-pub intersection_common : (a b : List (List ℕ)) → members (common_names a b) ≡ intersection (members a) (members b)
-intersection_common a b = fun_ext (λ n. common_here a b n)
+module _ (set a b : Names) where
+  pub union_same : AreAmong b a → set ≡ a → set ≡ union a b
+  union_same c e = e ∙ union_covered a b c
 
-module _ (set a b : Names) (names others : List (List ℕ)) (n : members names ≡ a) (o : members others ≡ b) where
-  pub union_same : covers_names names others ≡ true → set ≡ a → set ≡ union a b
-  union_same c e = e ∙ sym n ∙ union_covered names others c ∙ ap (λ (v : Names). union v (members others)) n ∙ ap (union a) o
+  pub union_new : (names others all : List (List ℕ)) → members names ≡ a → members others ≡ b → all ≡ names ++ missing_names a others → set ≡ members all → set ≡ union a b
+  union_new names others all n o k e =
+      e ∙ ap members k ∙ fun_ext (λ x. members-append names (missing_names a others) x ∙ ap (λ (f : Names). f x || members (missing_names a others) x) n ∙ missing_here a others x) ∙ ap (union a) o
 
-  pub union_new : (all : List (List ℕ)) → all ≡ names ++ missing_names names others → set ≡ members all → set ≡ union a b
-  union_new all k e = e ∙ ap members k ∙ union_joined names others ∙ ap (λ (v : Names). union v (members others)) n ∙ ap (union a) o
+  pub intersection_same : AreAmong a b → set ≡ a → set ≡ intersection a b
+  intersection_same c e = e ∙ intersection_covered a b c
 
-  pub intersection_same : covers_names others names ≡ true → set ≡ a → set ≡ intersection a b
-  intersection_same c e = e ∙ sym n ∙ intersection_covered names others c ∙ ap (λ (v : Names). intersection v (members others)) n ∙ ap (intersection a) o
-
-  pub intersection_new : (all : List (List ℕ)) → all ≡ common_names names others → set ≡ members all → set ≡ intersection a b
-  intersection_new all k e = e ∙ ap members k ∙ intersection_common names others ∙ ap (λ (v : Names). intersection v (members others)) n ∙ ap (intersection a) o
+  pub intersection_new : (names all : List (List ℕ)) → members names ≡ a → all ≡ common_names names b → set ≡ members all → set ≡ intersection a b
+  intersection_new names all n k e = e ∙ ap members k ∙ fun_ext (λ x. common_here names b x) ∙ ap (λ (f : Names). intersection f b) n

@@ -18,5 +18,6 @@ pub mod CallLemmas
 pub mod HeadLemmas
 pub mod TrimLemmas
 pub mod Moves
+pub mod NameLists
 pub mod LevelMoves
 pub mod TextAnswers

@@ -12,4 +12,5 @@ pub mod Known
 pub mod Taking
 pub mod Machine
 pub mod Levels
+pub mod Listed
 pub mod Answering

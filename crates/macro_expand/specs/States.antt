@@ -1,7 +1,7 @@
 -- How what the code holds is seen: hide sets as sets of names, tokens as marked tokens.
 use Rattle.std.specs.Prelude.{ℕ, ◌≡◌, Bool, true, false, ◌&&◌, ◌||◌, List, [], ◌∷◌, ◌++◌, map, bytes_eq, if◌then◌else◌, Option, Some, None, Result, Ok, Err, ◌⊎◌}
 use Rattle.std.specs.declared.rc.Rc.{Rc}
-use Rattle.smallvec.specs.SmallVec.{SmallVec}
+use Rattle.macro_expand.specs.declared.left.Left.{Left}
 use Rattle.macro_expand.specs.declared.hide.Name.{Name}
 use Rattle.macro_expand.specs.declared.hide.HideSet.{HideSet}
 use Rattle.macro_expand.specs.declared.hidden.Hidden.{Hidden}
@@ -14,6 +14,7 @@ use Rattle.macro_expand.specs.declared.fault.ExpandFault.TheVariants.{NoMemory}
 use Rattle.pp_tokens.specs.declared.token.Token.{Token}
 use Rattle.pp_tokens.specs.declared.token.Kind.{Kind}
 use Rattle.macro_expand.specs.Marked.{Names, no_names, Marked, is_named, is_hash, is_paste, sound_kind}
+use Rattle.macro_expand.specs.Listed.{names_in}
 use Rattle.macro_expand.specs.Calls.{paste_follows}
 use Rattle.macro_expand.specs.Substituted.{Argument, Piece, Word, Gap, Joins}
 
@@ -22,41 +23,37 @@ abbrev pub members : List (List ℕ) → Names
 members [] name = false
 members (x ∷ xs) name = bytes_eq x name || members xs name
 
--- whether all names of the second list are in the first
-abbrev pub covers_names : List (List ℕ) → List (List ℕ) → Bool
+-- whether all names of the list are in the set
+abbrev pub covers_names : Names → List (List ℕ) → Bool
 covers_names names [] = true
-covers_names names (x ∷ xs) = members names x && covers_names names xs
+covers_names names (x ∷ xs) = names x && covers_names names xs
 
--- whether two lists have the same names in the same order
-abbrev pub same_names : List (List ℕ) → List (List ℕ) → Bool
-same_names [] [] = true
-same_names [] (y ∷ ys) = false
-same_names (x ∷ xs) [] = false
-same_names (x ∷ xs) (y ∷ ys) = bytes_eq x y && same_names xs ys
-
--- those of the second list that are not in the first
-abbrev pub missing_names : List (List ℕ) → List (List ℕ) → List (List ℕ)
+-- those of the list that are not in the set
+abbrev pub missing_names : Names → List (List ℕ) → List (List ℕ)
 missing_names names [] = []
-missing_names names (x ∷ xs) = if members names x then missing_names names xs else x ∷ missing_names names xs
+missing_names names (x ∷ xs) = if names x then missing_names names xs else x ∷ missing_names names xs
 
--- those of the first list that are in the second
-abbrev pub common_names : List (List ℕ) → List (List ℕ) → List (List ℕ)
+-- those of the list that are in the set
+abbrev pub common_names : List (List ℕ) → Names → List (List ℕ)
 common_names [] others = []
-common_names (x ∷ xs) others = if members others x then x ∷ common_names xs others else common_names xs others
+common_names (x ∷ xs) others = if others x then x ∷ common_names xs others else common_names xs others
 
--- the text of a name that has one
-abbrev pub text_or_none : {X : Type 0} → Option (Rc (List ℕ) X) → List ℕ
-text_or_none None = []
-text_or_none (Some text) = text.value
+-- what is in the first set is in the second
+abbrev pub AreAmong : Names → Names → Type 0
+AreAmong some others = (name : List ℕ) → some name ≡ true → others name ≡ true
+
+-- the names of a list that are left
+abbrev pub names_left : Left → List (List ℕ)
+names_left left = names_in left.lengths.now left.text.now
 
 -- the text of a name
 abbrev pub name_text : Name → List ℕ
-name_text name = text_or_none name.text
+name_text name = name.text.value
 
 -- the names of a set that has some
-abbrev pub names_or_none : {X : Type 0} → Option (Rc (SmallVec Name) X) → Names
+abbrev pub names_or_none : {X : Type 0} → Option (Rc (List (List ℕ)) X) → Names
 names_or_none None = no_names
-names_or_none (Some names) = members (map name_text names.value.items)
+names_or_none (Some names) = members names.value
 
 -- the names of a hide set
 abbrev pub hidden_names : HideSet → Names

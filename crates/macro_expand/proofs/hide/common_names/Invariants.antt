@@ -1,8 +1,9 @@
-use Rattle.std.proofs.Common.{◌≡◌, map, drop, ◌++◌}
-use Rattle.macro_expand.specs.States.{name_text, common_names}
+use Rattle.std.proofs.Common.{◌≡◌, ◌++◌, length}
+use Rattle.macro_expand.specs.States.{hidden_names, names_left, common_names}
 use Rattle.macro_expand.proofs.hide.common_names.Given as goal
 
 abbrev pub invariant-loop-name : goal.invariant-loop-name
-invariant-loop-name l =
-    map name_text l.all.items ++ common_names (map name_text (drop l.name-index l.names)) (map name_text l.others)
-    ≡ common_names (map name_text l.names) (map name_text l.others)
+invariant-loop-name l = l.all ++ common_names (names_left l.left) (hidden_names l.set) ≡ common_names (names_left l.fn.names) (hidden_names l.set)
+
+abbrev pub decreases-loop-name : goal.decreases-loop-name
+decreases-loop-name l = length (names_left l.left)

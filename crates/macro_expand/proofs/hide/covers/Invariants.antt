@@ -1,6 +1,9 @@
-use Rattle.std.proofs.Common.{◌≡◌, map, drop}
-use Rattle.macro_expand.specs.States.{covers_names, name_text}
+use Rattle.std.proofs.Common.{◌≡◌, length}
+use Rattle.macro_expand.specs.States.{hidden_names, names_left, covers_names}
 use Rattle.macro_expand.proofs.hide.covers.Given as goal
 
-abbrev pub invariant-loop-other : goal.invariant-loop-other
-invariant-loop-other l = covers_names (map name_text l.names) (map name_text (drop l.other-index l.others)) ≡ covers_names (map name_text l.names) (map name_text l.others)
+abbrev pub invariant-loop-name : goal.invariant-loop-name
+invariant-loop-name l = covers_names (hidden_names l.set) (names_left l.left) ≡ covers_names (hidden_names l.set) (names_left l.fn.names)
+
+abbrev pub decreases-loop-name : goal.decreases-loop-name
+decreases-loop-name l = length (names_left l.left)
