@@ -30,9 +30,9 @@ abbrev pub IsMeaning : Option Known → List ℕ → Option (Option DefValue) �
 IsMeaning None name said = said ≡ None
 IsMeaning (Some known) name said = (said ≡ Some (known_def known)) × (name_text known.name ≡ name)
 
--- the set that was made has the names of the set that it was made of, and one name more
+-- the set that was made has the names of the set that it was made of, and one name more; whether that set had it is known
 abbrev pub IsMade : Made → Type 0
-IsMade made = hidden_names made.with ≡ with_name (name_text made.name) (hidden_names made.from)
+IsMade made = (hidden_names made.with ≡ with_name (name_text made.name) (hidden_names made.from)) × (made.had ≡ hidden_names made.from (name_text made.name))
 
 -- what is remembered is what the table says
 abbrev pub AreKnown : {A : Type 0} → TableOf ℕ → List (Vec ℕ A × Known) → Type 0

@@ -14,7 +14,7 @@ use Rattle.macro_expand.specs.Marked.{Marked}
 use Rattle.macro_expand.specs.Macros.{Macros}
 use Rattle.macro_expand.specs.Calls.{Waiting, stands_free, first_list, other_lists}
 use Rattle.macro_expand.specs.Substituted.{Argument, substituted}
-use Rattle.macro_expand.specs.Heads.{Call}
+use Rattle.macro_expand.specs.Heads.{Call, Finished, head_of}
 use Rattle.macro_expand.specs.Expansion.{limit, Answer, after, within, each, expansion}
 use Rattle.macro_expand.specs.States.{marked, argument_of}
 use Rattle.macro_expand.specs.Slots.{lists}
@@ -80,6 +80,14 @@ pub record GoesOn (macros : Macros) (here : Here) (answer : Answer) (bound : ℕ
   pub same : meaning macros here m ≡ answer
   pub less : size m < bound
   pub work : m.work ≤ limit
+
+-- the first list of a machine has ended, and this is the machine behind it
+pub record HasEnded (macros : Macros) (here : Here) (before behind : Machine) : Type 0 where
+  pub head : head_of macros here (first_list (lists before.slots)) ≡ Finished
+  pub others : lists behind.slots ≡ other_lists (lists before.slots)
+  pub out : behind.out ≡ before.out
+  pub work : behind.work ≡ before.work
+  pub frames : behind.frames ≡ before.frames
 
 -- a step that goes on keeps the meaning; the last one has it
 abbrev pub IsStep : Macros → Here → Answer → ℕ → Machine → Bool → Type 0

@@ -54,6 +54,17 @@ fn is_unknown(known: &Option<Known>, name: &[u8]) -> bool
     known.is_none() && name != b"__LINE__".as_slice() && name != b"__FILE__".as_slice()
 }
 
+/// Whether the token hides its name, of which this is known.
+fn is_hidden(definitions: &Definitions, known: &Option<Known>, hidden: &Hidden) -> bool
+    requires { IsMeaning known.now hidden.now.token.text (macros_of definitions.now hidden.now.token.text) }
+    ensures { result ≡ hidden_names hidden.now.hides hidden.now.token.text }
+{
+    match known {
+        None => hides(&hidden.hides, hidden.token.text.as_slice()),
+        Some(known) => definitions.hides_name(known.number, &known.name, &hidden.hides),
+    }
+}
+
 /// The number of the line.
 #[inline(never)]
 fn line_text(alloc: Global, line: u64) -> Result<Bytes, AllocError>
@@ -144,7 +155,7 @@ fn named_head(
 {
     let name = hidden.token.text.as_slice();
     let known = definitions.look_up(alloc, name)?;
-    if is_unknown(&known, name) || hides(&hidden.hides, name) {
+    if is_unknown(&known, name) || is_hidden(definitions, &known, &hidden) {
         return Ok(NextHead::Stays(hidden));
     }
     let head = seen_head(alloc, here, definitions, known, hidden, slots)?;

@@ -12,7 +12,7 @@ ghost use Rattle.macro_expand.specs.Macros.{macros_of, sound_def};
 ghost use Rattle.macro_expand.specs.Known.{known_def, known_value, def_value, IsMeaning};
 
 use crate::hide::{HideSet, Name};
-use crate::made::{Made, add_name, hide_name};
+use crate::made::{Made, add_name, hide_name, hides_name};
 use crate::recent::{Recent, make_places, put_recent, recent_of};
 use mac_base::{Bytes, NoMemory};
 use macro_table::{Def, Table, TextFault, def_of_text};
@@ -171,6 +171,13 @@ impl<'a> Definitions<'a> {
         let same = same_known(&known)?;
         remember(&mut self.known, Vec::from_slice(alloc, name)?, known)?;
         Ok(Some(same))
+    }
+
+    /// Whether the set has the name of this number.
+    pub fn hides_name(&self, number: usize, name: &Name, set: &HideSet) -> bool
+        ensures { result ≡ hidden_names set.now (name_text name.now) }
+    {
+        hides_name(self.sets.as_slice(), number, name, set)
     }
 
     /// The set with the name of this number more.

@@ -1,12 +1,13 @@
 // The expansion as a machine: a stack of lists that wait, and a stack of calls whose argument is being expanded.
 ghost use Rattle.std.specs.Prelude.{if◌then◌else◌, ◌≡◌, ◌<◌, ◌≤◌, ◌+◌, ◌++◌, ◌∷◌, [], ℕ, List, Ok, Err, IfOk, IfErr, OnOk, map, length, drop, suc, false, true, ◌&&◌, Bool, Some, None};
 ghost use Rattle.macro_expand.specs.declared.here.Here.{Here as HereValue};
+ghost use Rattle.macro_expand.specs.declared.machine.Machine.{Machine as MachineValue};
 ghost use Rattle.macro_expand.specs.Macros.{Macros, macros_of, params_of};
 ghost use Rattle.macro_expand.specs.Calls.{first_list, other_lists, stands_free as stands_free_of};
 ghost use Rattle.macro_expand.specs.Expansion.{limit, expansion};
 ghost use Rattle.macro_expand.specs.States.{Answers, marked, argument_of};
 ghost use Rattle.macro_expand.specs.Slots.{lists};
-ghost use Rattle.macro_expand.specs.Machine.{meaning, replacing, replacing_size, size, GoesOn, IsStep, IsFaultOf, plain_of, lists_after, wanted_in, AnswersList};
+ghost use Rattle.macro_expand.specs.Machine.{meaning, replacing, replacing_size, size, GoesOn, HasEnded, IsStep, IsFaultOf, plain_of, lists_after, wanted_in, AnswersList};
 
 use crate::cell::{Arguments, Given};
 use crate::fault::ExpandFault;
@@ -168,6 +169,33 @@ fn begin(alloc: Global, machine: &mut Machine, call: Replacing) -> Result<(), Ex
     Ok(())
 }
 
+/// Goes on behind a list that has ended: with the call of which it is an argument. It answers whether there is one.
+#[inline(never)]
+fn end_list(alloc: Global, machine: &mut Machine) -> Result<bool, ExpandFault>
+    requires work { machine.old.work ≤ limit }
+    ensures ok { IfOk result (λ more. (macros : Macros) (here : HereValue) (whole : MachineValue) → HasEnded macros here whole machine.old → IsStep macros here (meaning macros here whole) (size whole) machine.new more) }
+    ensures err { IfErr result (λ fault. (macros : Macros) (here : HereValue) (whole : MachineValue) → HasEnded macros here whole machine.old → IsFaultOf fault (meaning macros here whole)) }
+{
+    let Some(frame) = machine.frames.pop() else {
+        return Ok(false);
+    };
+    let Frame {
+        out,
+        call,
+        mut done,
+        name,
+        plain,
+    } = frame;
+    let expanded = mem::replace(&mut machine.out, out);
+    done.push(Given {
+        name,
+        plain,
+        expanded,
+    })?;
+    advance(alloc, machine, call, done)?;
+    Ok(true)
+}
+
 /// One step. It answers whether there are more.
 fn step(
     alloc: Global,
@@ -190,24 +218,8 @@ fn step(
             Ok(true)
         }
         NextHead::Finished => {
-            let Some(frame) = machine.frames.pop() else {
-                return Ok(false);
-            };
-            let Frame {
-                out,
-                call,
-                mut done,
-                name,
-                plain,
-            } = frame;
-            let expanded = mem::replace(&mut machine.out, out);
-            done.push(Given {
-                name,
-                plain,
-                expanded,
-            })?;
-            advance(alloc, machine, call, done)?;
-            Ok(true)
+            let more = end_list(alloc, machine)?;
+            Ok(more)
         }
     }
 }

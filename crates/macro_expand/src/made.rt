@@ -4,15 +4,16 @@ ghost use Rattle.macro_expand.specs.Marked.{with_name};
 ghost use Rattle.macro_expand.specs.States.{name_text, hidden_names};
 ghost use Rattle.macro_expand.specs.Known.{IsMade};
 
-use crate::hide::{HideSet, Name, is_listed_alike, no_hides, same_hides, with_name};
+use crate::hide::{HideSet, Name, hides, is_listed_alike, no_hides, same_hides, with_name};
 use std::alloc::{AllocError, Global};
 
-/// The hide set that was last made for a name: with the name, of another set.
+/// The hide set that was last made for a name: with the name, of another set, which may have the name already.
 #[derive(Drop)]
 pub struct Made {
     pub name: Name,
     pub from: HideSet,
     pub with: HideSet,
+    pub had: bool,
 }
 
 /// The set made of this set and this name.
@@ -25,6 +26,7 @@ fn made_of(alloc: Global, name: &Name, set: &HideSet) -> Result<Made, AllocError
         name: name.same()?,
         from: same_hides(set)?,
         with,
+        had: hides(set, name.as_slice()),
     })
 }
 
@@ -42,9 +44,24 @@ pub fn add_name(alloc: Global, sets: &mut Vec<Made>, name: &Name) -> Result<usiz
 /// Whether this was made of the set and the name.
 fn serves(made: &Made, name: &Name, set: &HideSet) -> bool
     requires { IsMade made.now }
-    ensures { result ≡ true → hidden_names made.now.with ≡ with_name (name_text name.now) (hidden_names set.now) }
+    ensures with { result ≡ true → hidden_names made.now.with ≡ with_name (name_text name.now) (hidden_names set.now) }
+    ensures had { result ≡ true → made.now.had ≡ hidden_names set.now (name_text name.now) }
 {
     made.name.as_slice() == name.as_slice() && is_listed_alike(&made.from, set)
+}
+
+/// Whether the set has the name of this number.
+pub fn hides_name(sets: &[Made], number: usize, name: &Name, set: &HideSet) -> bool
+    requires { All IsMade sets.now }
+    ensures { result ≡ hidden_names set.now (name_text name.now) }
+{
+    if number < sets.len() {
+        let last = &sets[number];
+        if serves(last, name, set) {
+            return last.had;
+        }
+    }
+    hides(set, name.as_slice())
 }
 
 /// The set with the name more. It is remembered as the last one that was made for the name of this number.

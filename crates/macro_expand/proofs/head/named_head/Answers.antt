@@ -1,9 +1,9 @@
-use Rattle.std.proofs.Common.{ℕ, ◌∙◌, sym, ap, subst, Ok}
+use Rattle.std.proofs.Common.{ℕ, ◌∙◌, sym, subst, Ok}
 use Rattle.macro_table.specs.Tables.{TableOf}
 use Rattle.macro_expand.specs.Heads.{Head, seen_head}
 use Rattle.macro_expand.specs.Macros.{macros_of}
 use Rattle.macro_expand.specs.Calls.{first_list}
-use Rattle.macro_expand.specs.States.{marked, hidden_names}
+use Rattle.macro_expand.specs.States.{marked}
 use Rattle.macro_expand.specs.Slots.{lists}
 use Rattle.macro_expand.specs.Taking.{IsHead}
 use Rattle.macro_expand.proofs.HeadLemmas.{named_seen}
@@ -12,5 +12,5 @@ use Rattle.macro_expand.proofs.head.named_head.Goals as goal
 pub returns-clause-head : goal.returns-clause-head
 returns-clause-head c =
     subst (λ (h : Head). IsHead (Ok c.in_ok-head.head) (lists c.args.slots.now) (lists c.seen_head.new.slots) h)
-    (sym (named_seen (macros_of c.args.definitions.now) c.args.here.now (marked c.args.hidden) (first_list (lists c.args.slots.now)) (ap (hidden_names c.args.hidden.hides) (sym c.as_slice-name.ensures) ∙ sym c.hides.ensures ∙ c.if-hides.false)))
+    (sym (named_seen (macros_of c.args.definitions.now) c.args.here.now (marked c.args.hidden) (first_list (lists c.args.slots.now)) (sym c.is_hidden.ensures ∙ c.if-is_hidden.false)))
     (subst (λ (d : TableOf ℕ). IsHead (Ok c.in_ok-head.head) (lists c.args.slots.now) (lists c.seen_head.new.slots) (seen_head (macros_of d) c.args.here.now (marked c.args.hidden) (first_list (lists c.args.slots.now)))) c.look_up.ensures.kept c.in_ok-head.ensures.head)

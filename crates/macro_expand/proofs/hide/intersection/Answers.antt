@@ -1,4 +1,3 @@
-use Rattle.std.proofs.Common.{◌∙◌, sym}
 use Rattle.macro_expand.proofs.HideLemmas.{intersection_same, intersection_new}
 use Rattle.macro_expand.proofs.hide.intersection.Goals as goal
 

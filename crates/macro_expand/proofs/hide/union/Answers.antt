@@ -1,4 +1,3 @@
-use Rattle.std.proofs.Common.{◌∙◌, sym}
 use Rattle.macro_expand.proofs.HideLemmas.{union_same, union_new}
 use Rattle.macro_expand.proofs.hide.union.Goals as goal
 

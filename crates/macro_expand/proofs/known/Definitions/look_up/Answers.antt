@@ -1,4 +1,4 @@
-use Rattle.std.proofs.Common.{◌∙◌, sym}
+use Rattle.std.proofs.Common.{◌∙◌}
 use Rattle.macro_expand.proofs.KnownLemmas.{recent_right}
 use Rattle.macro_expand.proofs.known.Definitions.look_up.Goals as goal
 
