@@ -4,7 +4,11 @@
 #[cfg(test)]
 mod elf;
 #[cfg(test)]
+mod events;
+#[cfg(test)]
 mod expansion;
+#[cfg(test)]
+mod folders;
 #[cfg(test)]
 mod outside;
 #[cfg(test)]

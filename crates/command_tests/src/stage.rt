@@ -1,6 +1,7 @@
-use dwmac_run::{Status, run};
+use crate::folders::run_over;
+use dwmac_run::Status;
 use mac_base::{Bytes, NoMemory, Paths};
-use mac_io::{MapShelf, SearchPath, VecSink, are_distinct};
+use mac_io::{MapShelf, VecSink, are_distinct};
 use std::alloc::Global;
 use std::process::Abort;
 use std::test::Fail;
@@ -82,11 +83,13 @@ pub fn usage<'a>(words: &'a [&'a [u8]], name: &'a [u8], file: &'a [u8]) -> Case<
     }
 }
 
-fn bytes_of(alloc: Global, bytes: &[u8]) -> Result<Bytes, NoMemory> {
+/// A text of its own.
+pub fn bytes_of(alloc: Global, bytes: &[u8]) -> Result<Bytes, NoMemory> {
     Ok(Bytes::from_vec(Vec::from_slice(alloc, bytes)?))
 }
 
-fn paths_of(alloc: Global, words: &[&[u8]]) -> Result<Paths, NoMemory> {
+/// The words as a list of their own.
+pub fn paths_of(alloc: Global, words: &[&[u8]]) -> Result<Paths, NoMemory> {
     let mut paths = Paths::new(alloc);
     for word in words {
         paths.push(bytes_of(alloc, word)?)?;
@@ -105,8 +108,7 @@ pub fn check(rt: &impl Abort, alloc: Global, case: &Case<'_>) -> Result<(), Fail
     let mut shelf = MapShelf::new(alloc, names, contents, shelf_fails);
     let mut out = VecSink::new(alloc, case.room, Vec::from_slice(alloc, case.out_fails)?)?;
     let mut err = VecSink::new(alloc, ROOM, Vec::from_slice(alloc, case.err_fails)?)?;
-    let mut path = SearchPath::new(alloc);
-    let status = run(alloc, &words, &mut path, &mut shelf, &mut out, &mut err);
+    let status = run_over(alloc, &words, &[], &mut shelf, &mut out, &mut err)?;
     assert_eq!(rt; out.text(), case.out);
     assert_eq!(rt; err.text(), case.err);
     assert_eq!(rt; status, case.status);

@@ -6,15 +6,12 @@ use Rattle.macro_query.specs.declared.fault.QueryFault.{QueryFault}
 use Rattle.macro_query.specs.Limits.{within_limit}
 use Rattle.macro_query.specs.Queries.{RawSays, UnitAtSays, DumpSays, InfoSays, ListSays, ExpandSays, OnceSays}
 use Rattle.dwmac_run.specs.declared.refusal.Refusal.TheVariants.{NoSuchFile, FileTooLong}
-use Rattle.dwmac_run.specs.Command.{Command, Raw, UnitAt, Dump, Info, ListAt, Expand, Once, Help, Version, command_of}
+use Rattle.dwmac_run.specs.Command.{Command, Raw, UnitAt, Dump, Info, ListAt, Expand, Once, Events, Help, Version, command_of}
+use Rattle.pp_unit.specs.Files.{Stores}
+use Rattle.dwmac_run.specs.Answers.{Answer, Prints, Refuses, Misuse}
+use Rattle.dwmac_run.specs.Units.{UnitAnswer}
 use Rattle.dwmac_run.specs.Help.{help_text, version_text}
 use Rattle.dwmac_run.specs.Refusals.{refusal_line, fault_line}
-
--- a text for `out`, a line for `err`, or that the words fit no command
-pub data Answer : Type 0 where
-  Prints : List ℕ → Answer
-  Refuses : List ℕ → Answer
-  Misuse : Answer
 
 -- the most bytes that a file may have
 abbrev pub most_bytes : ℕ
@@ -48,18 +45,19 @@ abbrev pub AboutFile : Option Files → List ℕ → (List ℕ → Result (List 
 AboutFile told file Says answer = (content : Option (List ℕ)) × IsFileAt told file content × FileAnswer file content (λ bytes. QueryAnswer file (Says bytes) answer) answer
 
 -- the answer to a command, or to words that fit none
-abbrev pub AnswerTo : Option Command → Option Files → Answer → Type 0
-AnswerTo None told answer = answer ≡ Misuse
-AnswerTo (Some (Raw file)) told answer = AboutFile told file RawSays answer
-AnswerTo (Some (UnitAt file offset)) told answer = AboutFile told file (UnitAtSays offset) answer
-AnswerTo (Some (Dump file)) told answer = AboutFile told file DumpSays answer
-AnswerTo (Some (Info file position name)) told answer = AboutFile told file (InfoSays position name) answer
-AnswerTo (Some (ListAt file position)) told answer = AboutFile told file (ListSays position) answer
-AnswerTo (Some (Expand file position text)) told answer = AboutFile told file (ExpandSays position text) answer
-AnswerTo (Some (Once file position text)) told answer = AboutFile told file (OnceSays position text) answer
-AnswerTo (Some Help) told answer = answer ≡ Prints help_text
-AnswerTo (Some Version) told answer = answer ≡ Prints version_text
+abbrev pub AnswerTo : Option Command → Option Files → Stores → Answer → Type 0
+AnswerTo None told stores answer = answer ≡ Misuse
+AnswerTo (Some (Raw file)) told stores answer = AboutFile told file RawSays answer
+AnswerTo (Some (UnitAt file offset)) told stores answer = AboutFile told file (UnitAtSays offset) answer
+AnswerTo (Some (Dump file)) told stores answer = AboutFile told file DumpSays answer
+AnswerTo (Some (Info file position name)) told stores answer = AboutFile told file (InfoSays position name) answer
+AnswerTo (Some (ListAt file position)) told stores answer = AboutFile told file (ListSays position) answer
+AnswerTo (Some (Expand file position text)) told stores answer = AboutFile told file (ExpandSays position text) answer
+AnswerTo (Some (Once file position text)) told stores answer = AboutFile told file (OnceSays position text) answer
+AnswerTo (Some (Events unit folders)) told stores answer = UnitAnswer stores unit answer
+AnswerTo (Some Help) told stores answer = answer ≡ Prints help_text
+AnswerTo (Some Version) told stores answer = answer ≡ Prints version_text
 
--- The answer to the words over the files that the shelf tells. Where it doesn't tell, it is the answer over some content.
-abbrev pub IsAnswer : List (List ℕ) → Option Files → Answer → Type 0
-IsAnswer words told answer = AnswerTo (command_of words) told answer
+-- The answer to the words over the files that the shelf tells, and the stores of the path. Where one doesn't tell its files, it is the answer over some content.
+abbrev pub IsAnswer : List (List ℕ) → Option Files → Stores → Answer → Type 0
+IsAnswer words told stores answer = AnswerTo (command_of words) told stores answer

@@ -1,13 +1,16 @@
 -- Which words fit a command.
-use Rattle.std.specs.Prelude.{ℕ, Bool, false, ◌+◌, ◌*◌, ◌-◌, nat_le, ◌==◌, ◌&&◌, not, if◌then◌else◌, List, [], ◌∷◌, length, codes, Option, Some, None}
+use Rattle.std.specs.Prelude.{ℕ, ◌+◌, ◌*◌, ◌-◌, nat_le, ◌==◌, ◌&&◌, not, if◌then◌else◌, List, [], ◌∷◌, length, codes, Option, Some, None}
 use Rattle.std.specs.Option.{option_map}
-use Rattle.std.specs.List.{list_any}
 use Rattle.std.specs.Str.{bytes_eq}
 use Rattle.dwmac_run.specs.declared.command.Command.{Command as HeldCommand}
-use Rattle.dwmac_run.specs.declared.command.Command.TheVariants.{Raw as HeldRaw, Unit as HeldUnit, Dump as HeldDump, Info as HeldInfo, List as HeldList, Expand as HeldExpand, Once as HeldOnce, Help as HeldHelp, Version as HeldVersion}
+use Rattle.dwmac_run.specs.declared.command.Command.TheVariants.{Raw as HeldRaw, Unit as HeldUnit, Dump as HeldDump, Info as HeldInfo, List as HeldList, Expand as HeldExpand, Once as HeldOnce, Events as HeldEvents, Help as HeldHelp, Version as HeldVersion}
 use Rattle.position_table.specs.declared.position.Position.{Position}
 use Rattle.position_table.specs.declared.position.Position.TheVariants.{Chain, Named}
 use Rattle.position_table.specs.Positions.{position_of}
+use Rattle.pp_unit.specs.declared.spec.Command.{Command as MacroWord}
+use Rattle.pp_unit.specs.declared.spec.UnitSpec.{UnitSpec}
+use Rattle.dwmac_run.specs.declared.options.UnitWords.{UnitWords}
+use Rattle.dwmac_run.specs.Options.{no_words, unit_words, is_file_word, is_name_word}
 
 -- a command with its words
 pub data Command : Type 0 where
@@ -25,6 +28,8 @@ pub data Command : Type 0 where
   Expand : List ℕ → Position → List ℕ → Command
   -- a single level of that
   Once : List ℕ → Position → List ℕ → Command
+  -- the events of this translation unit, with these folders for headers
+  Events : UnitSpec → List (List ℕ) → Command
   -- how the program is called
   Help : Command
   -- which program it is
@@ -39,13 +44,9 @@ plain (HeldInfo file position name) = Info file.now position name.now
 plain (HeldList file position) = ListAt file.now position
 plain (HeldExpand file position text) = Expand file.now position text.now
 plain (HeldOnce file position text) = Once file.now position text.now
+plain (HeldEvents unit folders) = Events unit folders
 plain HeldHelp = Help
 plain HeldVersion = Version
-
--- A word that names a file is not empty, holds no NUL, and doesn't begin with `-` as options do.
-abbrev pub is_file_word : List ℕ → Bool
-is_file_word [] = false
-is_file_word (b ∷ bytes) = not (b == 45) && not (list_any (λ c. c == 0) (b ∷ bytes))
 
 -- the value of a hexadecimal digit of either case
 abbrev pub hex_value : ℕ → Option ℕ
@@ -75,11 +76,6 @@ offset_of (a ∷ b ∷ digits) =
 -- the command of one word
 abbrev pub command_of_one : List ℕ → Option Command
 command_of_one word = if bytes_eq word (codes "--help") then Some Help else if bytes_eq word (codes "--version") then Some Version else None
-
--- A word that is a name is not empty and holds no NUL. It may begin with `-`.
-abbrev pub is_name_word : List ℕ → Bool
-is_name_word [] = false
-is_name_word (b ∷ bytes) = not (list_any (λ c. c == 0) (b ∷ bytes))
 
 -- a position that commands know: a chain of lines
 abbrev pub known_position : Option Position → Option Position
@@ -116,11 +112,44 @@ command_of_four verb file place word =
     else if bytes_eq verb (codes "once") then option_map (λ position. Once file position word) (known_position (position_of place))
     else None
 
+-- the command of a number of words that is fixed
+abbrev pub fixed_command : List (List ℕ) → Option Command
+fixed_command [] = None
+fixed_command (word ∷ []) = command_of_one word
+fixed_command (verb ∷ file ∷ []) = command_of_two verb file
+fixed_command (verb ∷ file ∷ place ∷ []) = command_of_three verb file place
+fixed_command (verb ∷ file ∷ place ∷ word ∷ []) = command_of_four verb file place word
+fixed_command (verb ∷ file ∷ place ∷ word ∷ other ∷ words) = None
+
+-- the most folders for headers that a command takes
+abbrev pub most_folders : ℕ
+most_folders = 255
+
+-- the events of a unit with these words for the preprocessor and these folders, if there is one source
+abbrev pub events_of : List (List ℕ) → List MacroWord → List (List ℕ) → Option Command
+events_of folders macros [] = None
+events_of folders macros (source ∷ []) = Some (Events (record { source = source; commands = macros }) folders)
+events_of folders macros (source ∷ other ∷ sources) = None
+
+-- the same by the words behind `events`
+abbrev pub events_by : Option UnitWords → Option Command
+events_by None = None
+events_by (Some read) = if nat_le (length read.folders) most_folders then events_of read.folders read.macros read.sources else None
+
 -- the command that the words fit
 abbrev pub command_of : List (List ℕ) → Option Command
 command_of [] = None
-command_of (word ∷ []) = command_of_one word
-command_of (verb ∷ file ∷ []) = command_of_two verb file
-command_of (verb ∷ file ∷ place ∷ []) = command_of_three verb file place
-command_of (verb ∷ file ∷ place ∷ name ∷ []) = command_of_four verb file place name
-command_of (verb ∷ file ∷ place ∷ name ∷ other ∷ words) = None
+command_of (verb ∷ words) = if bytes_eq verb (codes "events") then events_by (unit_words no_words words) else fixed_command (verb ∷ words)
+
+-- the folders for headers that a command names
+abbrev pub folders_of : Command → List (List ℕ)
+folders_of (Events unit folders) = folders
+folders_of _ = []
+
+-- the labels of the stores that a command needs: an empty one, for the folder in which the program runs, then each folder for headers
+abbrev pub labels_by : Command → List (List ℕ)
+labels_by command = [] ∷ folders_of command
+
+-- the labels for the command that the words fit
+abbrev pub labels_of : List (List ℕ) → Option (List (List ℕ))
+labels_of words = option_map labels_by (command_of words)

@@ -2,7 +2,7 @@
 use Rattle.std.specs.Prelude.{◌≡◌, ℕ, List, ◌++◌, codes, Option, ◌⊎◌}
 use Rattle.mac_io.specs.Calls.{grown, GrowsByFront}
 use Rattle.dwmac_run.specs.Refusals.{no_memory_line}
-use Rattle.dwmac_run.specs.Answer.{Answer, Prints, Refuses, Misuse}
+use Rattle.dwmac_run.specs.Answers.{Answer, Prints, Refuses, Misuse}
 use Rattle.dwmac_run.specs.declared.status.Status.{Status}
 use Rattle.dwmac_run.specs.declared.status.Status.TheVariants.{Ok, Refused, Usage, NoMemory, Outside}
 

@@ -1,7 +1,13 @@
+pub mod Options
+pub mod Expecting
 pub mod Command
+pub mod Roots
 pub mod Help
 pub mod Refusals
 pub mod Numbers
+pub mod Answers
+pub mod UnitFaults
+pub mod Units
 pub mod Answer
 pub mod Leaves
 pub mod Outcome

@@ -4,9 +4,14 @@ ghost use Rattle.position_table.specs.Positions.{position_of};
 ghost use Rattle.dwmac_run.specs.Command as spec;
 
 use crate::offset::offset_of;
-use mac_base::{Bytes, NoMemory};
+use crate::options::{UnitWords, is_file_word, is_name_word, unit_words};
+use mac_base::{Bytes, NoMemory, Paths};
 use position_table::{Position, PositionText, parse_position};
+use pp_unit::UnitSpec;
 use std::alloc::Global;
+
+/// The most folders for headers.
+const MOST_FOLDERS: usize = 255;
 
 /// A command, with its words.
 #[derive(Debug, Drop)]
@@ -25,6 +30,8 @@ pub enum Command<'w> {
     Expand(&'w [u8], Position, &'w [u8]),
     /// `once FILE POS TEXT`: a single level of that.
     Once(&'w [u8], Position, &'w [u8]),
+    /// `events [-I D].. [-D DEF].. [-U NAME].. SRC`: the events of the translation unit, with these folders for headers.
+    Events(UnitSpec, Paths),
     /// `--help`: how the program is called.
     Help,
     /// `--version`: which program it is.
@@ -34,6 +41,42 @@ pub enum Command<'w> {
 /// The command that the words fit.
 pub fn command_of(alloc: Global, words: &[Bytes]) -> Result<Option<Command<'_>>, NoMemory>
     ensures { IfOk result (λ command. option_map spec.plain command ≡ spec.command_of words.now) }
+{
+    match words {
+        [verb, behind @ ..] if verb.as_slice() == b"events".as_slice() => {
+            Ok(events_by(unit_words(alloc, behind)?))
+        }
+        _ => fixed_command(alloc, words),
+    }
+}
+
+/// The events of a unit by the words behind the verb, if one of them is its source.
+fn events_by<'w>(read: Option<UnitWords>) -> Option<Command<'w>>
+    ensures { option_map spec.plain result ≡ spec.events_by read }
+{
+    let UnitWords {
+        folders,
+        macros,
+        sources,
+    } = read?;
+    if folders.len() > MOST_FOLDERS {
+        return None;
+    }
+    let mut sources = sources.into_vec();
+    let source = sources.pop()?;
+    if !sources.is_empty() {
+        return None;
+    }
+    let unit = UnitSpec {
+        source,
+        commands: macros,
+    };
+    Some(Command::Events(unit, folders))
+}
+
+/// The command of a number of words that is fixed.
+fn fixed_command(alloc: Global, words: &[Bytes]) -> Result<Option<Command<'_>>, NoMemory>
+    ensures { IfOk result (λ command. option_map spec.plain command ≡ spec.fixed_command words.now) }
 {
     match words {
         [word] => Ok(command_of_one(word.as_slice())),
@@ -192,25 +235,5 @@ fn position_of(alloc: Global, word: &[u8]) -> Result<Option<Position>, NoMemory>
         Ok(Position::Named { .. }) => Ok(None),
         Err(PositionText::Bad) => Ok(None),
         Err(PositionText::NoMemory) => Err(NoMemory),
-    }
-}
-
-/// Whether the word can name a file.
-fn is_file_word(word: &[u8]) -> bool
-    ensures { result ≡ spec.is_file_word word.now }
-{
-    match word {
-        [] => false,
-        [first, ..] => *first != b'-' && !word.contains(&0),
-    }
-}
-
-/// Whether the word can be a name.
-fn is_name_word(word: &[u8]) -> bool
-    ensures { result ≡ spec.is_name_word word.now }
-{
-    match word {
-        [] => false,
-        _ => !word.contains(&0),
     }
 }

@@ -3,15 +3,18 @@ ghost use Rattle.mac_io.specs.Causes.{Rose};
 ghost use Rattle.mac_io.specs.Calls.{GrowsByFront};
 ghost use Rattle.dwmac_run.specs.Leaves.{outside_line};
 ghost use Rattle.dwmac_run.specs.Refusals.{refusal_line, expand_line};
+ghost use Rattle.dwmac_run.specs.UnitFaults.{unit_line, file_shown};
 ghost use Rattle.dwmac_run.specs.Outcome.{answer_of, Ends, EndsSaying, HasFailed};
 
 use crate::outcome::Outcome;
-use crate::printing::{write_fields, write_lines, write_refusal};
+use crate::printing::{write_fault, write_line, write_lines, write_refusal};
 use crate::refusal::{Refusal, expand_fields, text_line};
 use crate::status::Status;
+use crate::unit_fault::kind_fields;
 use itoa::Buffer;
 use mac_io::{Sink, Wrote};
 use macro_expand::ExpandFault;
+use pp_unit::PpFault;
 
 /// Prints an outcome, and says how the run ends.
 pub fn finish<O: Sink, E: Sink>(outcome: Outcome<'_>, out: &mut O, err: &mut E) -> Status
@@ -34,6 +37,7 @@ pub fn finish<O: Sink, E: Sink>(outcome: Outcome<'_>, out: &mut O, err: &mut E) 
         Outcome::Refused(file, refusal) => refuse(err, file, refusal),
         Outcome::NoTokens(fault) => say(err, text_line(fault), Status::Refused),
         Outcome::NoExpansion(fault) => refuse_expansion(err, &fault),
+        Outcome::BadUnit(fault) => refuse_unit(err, &fault),
         Outcome::TooLong => say(err, b"dwmac: ReportTooLong\n", Status::Refused),
         Outcome::Usage => say(err, b"dwmac: usage\n", Status::Usage),
         Outcome::NoMemory => say(err, b"dwmac: no memory\n", Status::NoMemory),
@@ -65,9 +69,35 @@ fn refuse_expansion<E: Sink>(err: &mut E, fault: &ExpandFault) -> Status
 {
     let mut decimal = Buffer::new();
     let fields = expand_fields(fault, &mut decimal);
-    match write_fields(err, fields) {
+    match write_line(err, fields) {
         Wrote::Done => Status::Refused,
         Wrote::Failed => outside(err),
+    }
+}
+
+/// Prints the line on the fault of a translation unit.
+fn refuse_unit<E: Sink>(err: &mut E, fault: &PpFault) -> Status
+    ensures said { EndsSaying (unit_line fault.now) Status.Refused result (E.text err.old) (E.text err.new) }
+    ensures later { E.count err.old ≤ E.count err.new }
+    ensures cause { result ≡ Status.Outside → Rose (E.count err.old) (E.count err.new) }
+{
+    let mut number = Buffer::new();
+    let mut room = Buffer::new();
+    let line = number.format(fault.place.line).as_bytes();
+    let fields = kind_fields(&fault.what, &mut room);
+    match write_fault(err, file_shown(fault), line, fields) {
+        Wrote::Done => Status::Refused,
+        Wrote::Failed => outside(err),
+    }
+}
+
+/// The path of the innermost file that is open.
+fn file_shown(fault: &PpFault) -> &[u8]
+    ensures { result.now ≡ file_shown fault.now.place.frames fault.now.path }
+{
+    match fault.place.frames.as_slice() {
+        [] => b"<start>",
+        _ => fault.path.as_slice(),
     }
 }
 

@@ -6,13 +6,18 @@ mod finish;
 mod help;
 mod laws;
 mod offset;
+mod options;
 mod outcome;
 mod perform;
 mod printing;
 mod refusal;
+mod roots;
 mod status;
 mod top;
+mod unit_fault;
+mod units;
 
 pub use laws::each_run_has_one_answer;
+pub use roots::{Roots, RootsFault, roots_of};
 pub use status::Status;
 pub use top::run;

@@ -1,6 +1,7 @@
 use crate::refusal::Refusal;
 use macro_expand::ExpandFault;
 use pp_tokens::LexFault;
+use pp_unit::PpFault;
 
 /// What a command came to, before it is printed.
 #[derive(Drop)]
@@ -15,12 +16,14 @@ pub enum Outcome<'w> {
     NoTokens(LexFault),
     /// It has no expansion.
     NoExpansion(ExpandFault),
+    /// A translation unit has this fault.
+    BadUnit(PpFault),
     /// The report has more bytes than are printed.
     TooLong,
     /// The words fit no command.
     Usage,
     /// Memory ran out.
     NoMemory,
-    /// The shelf failed.
+    /// The shelf or a header store failed.
     Failed,
 }

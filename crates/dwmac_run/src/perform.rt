@@ -1,17 +1,19 @@
-ghost use Rattle.std.specs.Prelude.{◌≡◌, ◌≤◌, Some, IfSome, IfOk, IfErr, IsErrAnd, length};
+ghost use Rattle.std.specs.Prelude.{◌≡◌, ◌≤◌, ◌<◌, Some, IfSome, IfOk, IfErr, IsErrAnd, length};
 ghost use Rattle.mac_io.specs.Causes.{HasCause};
 ghost use Rattle.mac_io.specs.Files.{IsFileAt};
 ghost use Rattle.macro_query.specs.Queries.{RawSays, UnitAtSays, DumpSays, InfoSays, ListSays, ExpandSays, OnceSays};
 ghost use Rattle.dwmac_run.specs.Command as spec;
 ghost use Rattle.dwmac_run.specs.Answer.{IsAnswer, AnswerTo, IsNoFile, AboutFile, most_bytes};
-ghost use Rattle.dwmac_run.specs.Outcome.{answer_of, told_by, HasFailed};
+ghost use Rattle.dwmac_run.specs.Roots.{IsPathFor};
+ghost use Rattle.dwmac_run.specs.Outcome.{answer_of, told_by, HasFailed, CausedBy};
 
 use crate::command::{Command, command_of};
 use crate::help::{help_text, version_text};
 use crate::outcome::Outcome;
 use crate::refusal::Refusal;
+use crate::units::events;
 use mac_base::{Bytes, Paths};
-use mac_io::{Fetched, Shelf};
+use mac_io::{Fetched, Headers, Shelf};
 use macro_query::QueryFault;
 use position_table::Position;
 use std::alloc::Global;
@@ -20,27 +22,40 @@ use std::alloc::Global;
 const MOST_BYTES: usize = 1_073_741_824;
 
 /// Does what the words ask for, up to printing.
-pub fn perform<'w, S: Shelf>(alloc: Global, words: &'w Paths, shelf: &mut S) -> Outcome<'w>
-    ensures answer { IfSome (answer_of result) (IsAnswer words.now (S.files shelf.old)) }
+pub fn perform<'w, P: Headers, S: Shelf>(
+    alloc: Global,
+    words: &'w Paths,
+    path: &mut P,
+    shelf: &mut S,
+) -> Outcome<'w>
+    requires { IsPathFor words.now (P.stores path.old) }
+    ensures answer { IfSome (answer_of result) (IsAnswer words.now (S.files shelf.old) (P.stores path.old)) }
     ensures same { S.files shelf.new ≡ S.files shelf.old }
-    ensures cause { HasCause (S.count shelf.old) (S.count shelf.new) (HasFailed result) }
+    ensures cause { CausedBy (P.count path.old) (P.count path.new) (S.count shelf.old) (S.count shelf.new) (HasFailed result) }
 {
     match command_of(alloc, words.as_slice()) {
-        Ok(Some(command)) => obey(alloc, command, shelf),
+        Ok(Some(command)) => obey(alloc, command, path, shelf),
         Ok(None) => Outcome::Usage,
         Err(_) => Outcome::NoMemory,
     }
 }
 
 /// Does what a command asks for.
-fn obey<'w, S: Shelf>(alloc: Global, command: Command<'w>, shelf: &mut S) -> Outcome<'w>
-    ensures answer { IfSome (answer_of result) (AnswerTo (Some (spec.plain command.entry)) (S.files shelf.old)) }
+fn obey<'w, P: Headers, S: Shelf>(
+    alloc: Global,
+    command: Command<'w>,
+    path: &mut P,
+    shelf: &mut S,
+) -> Outcome<'w>
+    requires { 0 < length (P.stores path.old) }
+    ensures answer { IfSome (answer_of result) (AnswerTo (Some (spec.plain command.entry)) (S.files shelf.old) (P.stores path.old)) }
     ensures same { S.files shelf.new ≡ S.files shelf.old }
-    ensures cause { HasCause (S.count shelf.old) (S.count shelf.new) (HasFailed result) }
+    ensures cause { CausedBy (P.count path.old) (P.count path.new) (S.count shelf.old) (S.count shelf.new) (HasFailed result) }
 {
     match command {
         Command::Help => Outcome::Text(help_text()),
         Command::Version => Outcome::Text(version_text()),
+        Command::Events(unit, _) => events(alloc, path, &unit),
         Command::Raw(file) => raw(alloc, file, shelf),
         Command::Unit(file, offset) => unit(alloc, file, offset, shelf),
         Command::Dump(file) => dump(alloc, file, shelf),

@@ -46,8 +46,41 @@ pub fn write_refusal<E: Sink>(err: &mut E, file: &[u8], words: &[u8], digits: &[
     }
 }
 
-/// Writes a line of its words, two fields and what stands between them.
-pub fn write_fields<E: Sink>(err: &mut E, fields: Fields<'_>) -> Wrote
+/// Writes the line on a fault that stands in no file.
+pub fn write_line<E: Sink>(err: &mut E, fields: Fields<'_>) -> Wrote
+    ensures answer { Writes (E.text err.old) (E.text err.new) (codes "dwmac: " ++ fields_line fields.entry) result }
+    ensures cause { HasCause (E.count err.old) (E.count err.new) (result ≡ Wrote.Failed) }
+{
+    match err.write(b"dwmac: ") {
+        Wrote::Done => write_fields(err, fields),
+        Wrote::Failed => Wrote::Failed,
+    }
+}
+
+/// Writes the line on a fault in this line of a file.
+pub fn write_fault<E: Sink>(err: &mut E, file: &[u8], line: &[u8], fields: Fields<'_>) -> Wrote
+    ensures answer { Writes (E.text err.old) (E.text err.new) ((codes "dwmac: " ++ file.now ++ codes ":") ++ ((line.now ++ codes ": ") ++ fields_line fields.entry)) result }
+    ensures cause { HasCause (E.count err.old) (E.count err.new) (result ≡ Wrote.Failed) }
+{
+    match write_parts(err, b"dwmac: ", file, b":") {
+        Wrote::Done => write_behind(err, line, fields),
+        Wrote::Failed => Wrote::Failed,
+    }
+}
+
+/// Writes the end of that line, from its number on.
+fn write_behind<E: Sink>(err: &mut E, line: &[u8], fields: Fields<'_>) -> Wrote
+    ensures answer { Writes (E.text err.old) (E.text err.new) ((line.now ++ codes ": ") ++ fields_line fields.entry) result }
+    ensures cause { HasCause (E.count err.old) (E.count err.new) (result ≡ Wrote.Failed) }
+{
+    match write_two(err, line, b": ") {
+        Wrote::Done => write_fields(err, fields),
+        Wrote::Failed => Wrote::Failed,
+    }
+}
+
+/// Writes words, two fields, what stands between them, and the end of the line.
+fn write_fields<E: Sink>(err: &mut E, fields: Fields<'_>) -> Wrote
     ensures answer { Writes (E.text err.old) (E.text err.new) (fields_line fields.entry) result }
     ensures cause { HasCause (E.count err.old) (E.count err.new) (result ≡ Wrote.Failed) }
 {

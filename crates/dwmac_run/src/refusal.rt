@@ -1,6 +1,6 @@
 ghost use Rattle.std.specs.Prelude.{◌≡◌, ◌++◌, ℕ, List, codes};
 ghost use Rattle.dwmac_run.specs.Refusals as spec;
-ghost use Rattle.dwmac_run.specs.Refusals.{elf_words, info_name, line_name, kind_name, position_words, expand_line};
+ghost use Rattle.dwmac_run.specs.Refusals.{elf_words, info_name, line_name, kind_name, position_words, expand_words};
 ghost use Rattle.dwmac_run.specs.Numbers.{number_text, fields_line};
 
 use info_roots::{InfoFault, InfoKind};
@@ -34,7 +34,7 @@ pub enum Refusal {
     Position(PosFault),
 }
 
-/// The words of a line on a text, two fields behind them, and what stands between the two.
+/// The words on a fault, two fields behind them, and what stands between the two.
 #[derive(Clone, Copy)]
 pub struct Fields<'f> {
     pub words: &'static [u8],
@@ -147,36 +147,36 @@ pub fn text_line(fault: LexFault) -> &'static [u8]
     }
 }
 
-/// The line on a text that has no expansion, as fields. The digits of a number stand in this room.
+/// The words on a text that has no expansion, as fields. The digits of a number stand in this room.
 pub fn expand_fields<'f>(fault: &'f ExpandFault, room: &'f mut Buffer) -> Fields<'f>
-    ensures { fields_line result ≡ expand_line fault.now }
+    ensures { fields_line result ≡ (codes "Expand " ++ expand_words fault.now) ++ codes "\n" }
 {
     match fault {
-        ExpandFault::OpenCall { name } => one_field(b"dwmac: Expand OpenCall ", name.as_slice()),
+        ExpandFault::OpenCall { name } => one_field(b"Expand OpenCall ", name.as_slice()),
         ExpandFault::ArgCount { name, got } => Fields {
-            words: b"dwmac: Expand ArgCount ",
+            words: b"Expand ArgCount ",
             first: name.as_slice(),
             gap: b" ",
             second: room.format(*got).as_bytes(),
         },
         ExpandFault::BadPaste { left, right } => Fields {
-            words: b"dwmac: Expand BadPaste ",
+            words: b"Expand BadPaste ",
             first: left.as_slice(),
             gap: b" ",
             second: right.as_slice(),
         },
-        ExpandFault::BadString { name } => one_field(b"dwmac: Expand BadString ", name.as_slice()),
+        ExpandFault::BadString { name } => one_field(b"Expand BadString ", name.as_slice()),
         ExpandFault::BadDefinition { name } => {
-            one_field(b"dwmac: Expand BadDefinition ", name.as_slice())
+            one_field(b"Expand BadDefinition ", name.as_slice())
         }
-        ExpandFault::LoneQuote => one_field(b"dwmac: Expand LoneQuote", &[]),
-        ExpandFault::TooLong => one_field(b"dwmac: Expand TooLong", &[]),
-        ExpandFault::NoMemory => one_field(b"dwmac: Expand NoMemory", &[]),
+        ExpandFault::LoneQuote => one_field(b"Expand LoneQuote", &[]),
+        ExpandFault::TooLong => one_field(b"Expand TooLong", &[]),
+        ExpandFault::NoMemory => one_field(b"Expand NoMemory", &[]),
     }
 }
 
 /// Words with one field behind them.
-fn one_field<'f>(words: &'static [u8], first: &'f [u8]) -> Fields<'f>
+pub fn one_field<'f>(words: &'static [u8], first: &'f [u8]) -> Fields<'f>
     ensures { fields_line result ≡ words.now ++ first.now ++ codes "\n" }
 {
     Fields {

@@ -1,7 +1,10 @@
 ghost use Rattle.std.specs.Prelude.{◌≡◌, ◌≤◌, ◌⊎◌, [], Some};
 ghost use Rattle.mac_io.specs.Causes.{Rose};
 ghost use Rattle.mac_io.specs.Files.{Files};
-ghost use Rattle.dwmac_run.specs.Answer.{Answer, IsAnswer};
+ghost use Rattle.dwmac_run.specs.Units.{AllTold};
+ghost use Rattle.dwmac_run.specs.Roots.{IsPathFor};
+ghost use Rattle.dwmac_run.specs.Answers.{Answer};
+ghost use Rattle.dwmac_run.specs.Answer.{IsAnswer};
 ghost use Rattle.dwmac_run.specs.Leaves.{Leaves};
 
 use crate::finish::finish;
@@ -21,19 +24,19 @@ pub fn run<P: Headers, S: Shelf, O: Sink, E: Sink>(
     out: &mut O,
     err: &mut E,
 ) -> Status
-    requires { P.stores path.old ≡ [] }
+    requires { IsPathFor words.now (P.stores path.old) }
 
     // The words and the files have an answer, and the run ends and leaves the texts as that answer calls for.
-    ensures answered { (answer : Answer) × IsAnswer words.now (S.files shelf.old) answer × Leaves answer result
+    ensures answered { (answer : Answer) × IsAnswer words.now (S.files shelf.old) (P.stores path.old) answer × Leaves answer result
         (record { out = O.text out.old; err = E.text err.old }) (record { out = O.text out.new; err = E.text err.new }) }
 
-    // Where the shelf tells its files it has no other answer: so `Ok`, `Refused` and `Usage` come exactly where the words
+    // Where the shelf and the stores tell their files it has no other answer: so `Ok`, `Refused` and `Usage` come exactly where the words
     // and the files call for them, unless memory runs out or the outside fails.
-    ensures only { (files : Files) → S.files shelf.old ≡ Some files → (answer : Answer) → IsAnswer words.now (Some files) answer → Leaves answer result
+    ensures only { (files : Files) → S.files shelf.old ≡ Some files → AllTold (P.stores path.old) → (answer : Answer) → IsAnswer words.now (Some files) (P.stores path.old) answer → Leaves answer result
         (record { out = O.text out.old; err = E.text err.old }) (record { out = O.text out.new; err = E.text err.new }) }
 
     // The outside is blamed only where a call on it failed.
-    ensures outside { result ≡ Status.Outside → Rose (S.count shelf.old) (S.count shelf.new)
+    ensures outside { result ≡ Status.Outside → (Rose (P.count path.old) (P.count path.new) ⊎ Rose (S.count shelf.old) (S.count shelf.new))
         ⊎ (Rose (O.count out.old) (O.count out.new) ⊎ Rose (E.count err.old) (E.count err.new)) }
 
     // The files are as before, no store is left on the path, and no count has fallen.
@@ -42,7 +45,7 @@ pub fn run<P: Headers, S: Shelf, O: Sink, E: Sink>(
     ensures counts { (P.count path.old ≤ P.count path.new) × (S.count shelf.old ≤ S.count shelf.new)
         × (O.count out.old ≤ O.count out.new) × (E.count err.old ≤ E.count err.new) }
 {
-    let _ = path;
-    let outcome = perform(alloc, words, shelf);
+    let outcome = perform(alloc, words, path, shelf);
+    path.clear();
     finish(outcome, out, err)
 }
