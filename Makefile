@@ -26,4 +26,4 @@ bench: build
 
 # Compares with tools of this machine, where they are there.
 peers: build
-	@scripts/peers
+	@scripts/peers && scripts/events
