@@ -85,7 +85,7 @@ pub fn usage<'a>(words: &'a [&'a [u8]], name: &'a [u8], file: &'a [u8]) -> Case<
 
 /// A text of its own.
 pub fn bytes_of(alloc: Global, bytes: &[u8]) -> Result<Bytes, NoMemory> {
-    Ok(Bytes::from_vec(Vec::from_slice(alloc, bytes)?))
+    Bytes::from_slice(alloc, bytes)
 }
 
 /// The words as a list of their own.

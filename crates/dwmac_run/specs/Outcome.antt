@@ -18,7 +18,7 @@ use Rattle.dwmac_run.specs.declared.outcome.Outcome.TheVariants.{Report, Text, R
 
 -- the answer, where it isn't that memory ran out or the shelf failed
 abbrev pub answer_of : Outcome → Option Answer
-answer_of (Report text) = Some (Prints text.items)
+answer_of (Report text) = Some (Prints text)
 answer_of (Text text) = Some (Prints text.now)
 answer_of (Refused file refusal) = Some (Refuses (refusal_line file.now refusal))
 answer_of (NoTokens fault) = Some (Refuses (text_line fault))

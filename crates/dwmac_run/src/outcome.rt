@@ -1,4 +1,5 @@
 use crate::refusal::Refusal;
+use mac_base::Bytes;
 use macro_expand::ExpandFault;
 use pp_tokens::LexFault;
 use pp_unit::PpFault;
@@ -7,7 +8,7 @@ use pp_unit::PpFault;
 #[derive(Drop)]
 pub enum Outcome<'w> {
     /// A report for `out`.
-    Report(Vec<u8>),
+    Report(Bytes),
     /// A text of the program's own for `out`.
     Text(&'static [u8]),
     /// This file is refused.

@@ -205,7 +205,7 @@ fn outcome_of(file: &[u8], said: Result<Bytes, QueryFault>) -> Outcome<'_>
     ensures works { HasFailed result → ⊥ }
 {
     match said {
-        Ok(text) => Outcome::Report(text.into_vec()),
+        Ok(text) => Outcome::Report(text),
         Err(QueryFault::Elf(fault)) => Outcome::Refused(file, Refusal::Elf(fault)),
         Err(QueryFault::Info(fault)) => Outcome::Refused(file, Refusal::Info(fault)),
         Err(QueryFault::Line(fault)) => Outcome::Refused(file, Refusal::Line(fault)),

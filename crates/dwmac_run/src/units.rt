@@ -49,7 +49,7 @@ fn report<'w>(alloc: Global, events: &Events) -> Outcome<'w>
     ensures works { HasFailed result → ⊥ }
 {
     match text_of(alloc, events.files.as_slice(), events.list.as_slice()) {
-        Ok(Some(text)) => Outcome::Report(text),
+        Ok(Some(text)) => Outcome::Report(Bytes::from_vec(text)),
         Ok(None) => Outcome::TooLong,
         Err(_) => Outcome::NoMemory,
     }

@@ -1,4 +1,4 @@
-ghost use Rattle.std.specs.Prelude.{◌≡◌, IfOk};
+ghost use Rattle.std.specs.Prelude.{◌≡◌};
 ghost use Rattle.std.specs.Option.{option_map};
 ghost use Rattle.mac_base.specs.SectionBytes.{bytes_of};
 ghost use Rattle.info_roots.specs.Faults.{Says, Answers};
@@ -8,7 +8,7 @@ ghost use Rattle.info_roots.specs.Texts.{string_by, offset_text, index_text, tex
 use crate::entry::{Entry, Text};
 use crate::fault::{InfoFault, InfoKind};
 use crate::root::Root;
-use mac_base::{Bytes, NoMemory, Sections};
+use mac_base::{Bytes, Sections};
 use std::alloc::Global;
 use string_sections::{OffsetsView, string_at};
 
@@ -26,8 +26,8 @@ pub fn root_of<'a>(
 {
     let (name, dir) = texts(s, at, wide, entry)?;
     Ok(Root {
-        name: copied(alloc, name)?,
-        dir: copied(alloc, dir)?,
+        name: Bytes::from_slice(alloc, name)?,
+        dir: Bytes::from_slice(alloc, dir)?,
         macros,
         line: entry.line,
         str_base: entry.str_base,
@@ -105,11 +105,4 @@ fn by_index<'a>(
         Ok(text) => Ok(text),
         Err(_) => Err(InfoFault::new(at, InfoKind::StrRange)),
     }
-}
-
-/// A list of its own with these bytes.
-fn copied(alloc: Global, text: &[u8]) -> Result<Bytes, NoMemory>
-    ensures { IfOk result (λ bytes. bytes ≡ text.now) }
-{
-    Ok(Bytes::from_vec(Vec::from_slice(alloc, text)?))
 }

@@ -169,7 +169,7 @@ fn store(
     ensures ok { OnOk result (files_of names.new.items contents.new.items ≡ map.insert (files_of names.old.items contents.old.items) name.now bytes.now) }
     ensures err { OnErr result (files_of names.new.items contents.new.items ≡ files_of names.old.items contents.old.items) }
 {
-    let content = Bytes::from_vec(Vec::from_slice(alloc, bytes)?);
+    let content = Bytes::from_slice(alloc, bytes)?;
     match place_of(names, name) {
         Some(place) => {
             contents[place] = content;
@@ -193,7 +193,7 @@ fn add(
     ensures names { names.new.items ≡ (if is_ok result then names.old.items ++ name.now ∷ [] else names.old.items) }
     ensures contents { contents.new.items ≡ (if is_ok result then contents.old.items ++ content ∷ [] else contents.old.items) }
 {
-    names.push(Bytes::from_vec(Vec::from_slice(alloc, name)?))?;
+    names.push(Bytes::from_slice(alloc, name)?)?;
     if contents.push(content).is_err() {
         let _ = names.pop();
         return Err(NoMemory);

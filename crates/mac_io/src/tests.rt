@@ -9,7 +9,7 @@ use std::test::Fail;
 fn paths_of(alloc: Global, words: &[&[u8]]) -> Result<Paths, NoMemory> {
     let mut paths = Paths::new(alloc);
     for word in words {
-        paths.push(Bytes::from_vec(Vec::from_slice(alloc, word)?))?;
+        paths.push(Bytes::from_slice(alloc, word)?)?;
     }
     Ok(paths)
 }

@@ -19,7 +19,7 @@ use crate::part::Part;
 use crate::slots::Cut;
 use crate::stack::{Stack, cut_arguments, next_part, next_token, opens_next, slot_count};
 use crate::token::is_identifier;
-use mac_base::Bytes;
+use mac_base::{Bytes, NoMemory};
 use macro_table::Def;
 use pp_tokens::{Kind, Token};
 use std::alloc::{AllocError, Global};
@@ -67,11 +67,11 @@ fn is_hidden(definitions: &Definitions, known: &Option<Known>, hidden: &Hidden) 
 
 /// The number of the line.
 #[inline(never)]
-fn line_text(alloc: Global, line: u64) -> Result<Bytes, AllocError>
+fn line_text(alloc: Global, line: u64) -> Result<Bytes, NoMemory>
     ensures { IfOk result (λ text. text ≡ decimal line) }
 {
     let text = format!(in alloc; "{line}")?;
-    Ok(Bytes::from_vec(Vec::from_slice(alloc, text.as_bytes())?))
+    Bytes::from_slice(alloc, text.as_bytes())
 }
 
 /// Appends a byte of a path.

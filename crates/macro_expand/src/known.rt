@@ -161,7 +161,7 @@ impl<'a> Definitions<'a> {
             return Ok(None);
         };
         let def = read_def(alloc, entry.text.as_slice())?;
-        let own = Name::new(alloc, Bytes::from_vec(Vec::from_slice(alloc, name)?))?;
+        let own = Name::new(alloc, Bytes::from_slice(alloc, name)?)?;
         let number = add_name(alloc, &mut self.sets, &own)?;
         let known = Known {
             name: own,

@@ -59,7 +59,7 @@ pub fn param_at(alloc: Global, def: &Def, at: usize) -> Result<Option<Bytes>, No
         return Ok(Some(names[at].copy()?));
     }
     if def.variadic && at == names.len() {
-        return Ok(Some(Bytes::from_vec(Vec::from_slice(alloc, b"__VA_ARGS__".as_slice())?)));
+        return Ok(Some(Bytes::from_slice(alloc, b"__VA_ARGS__")?));
     }
     Ok(None)
 }

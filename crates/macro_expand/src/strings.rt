@@ -82,7 +82,7 @@ pub fn string_of(
 {
     let text = quoted(alloc, tokens)?;
     if !spells_string(alloc, text.as_slice())? {
-        let name = Bytes::from_vec(Vec::from_slice(alloc, name)?);
+        let name = Bytes::from_slice(alloc, name)?;
         return Err(ExpandFault::BadString { name });
     }
     Ok(fresh_hidden(Token {

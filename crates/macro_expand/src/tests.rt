@@ -73,7 +73,7 @@ fn fault_text(alloc: Global, fault: &ExpandFault) -> Result<Vec<u8>, NoMemory> {
 /// What a text expands to, or its fault.
 fn answer(alloc: Global, defs: &[&[u8]], text: &[u8]) -> Result<Vec<u8>, Fail> {
     let table = table_of(alloc, defs)?;
-    let file = Bytes::from_vec(Vec::from_slice(alloc, b"m.c".as_slice())?);
+    let file = Bytes::from_slice(alloc, b"m.c".as_slice())?;
     let here = Here { line: 3, file };
     let tokens = lex_text(alloc, text)?;
     match expand(alloc, &table, &here, &tokens) {

@@ -52,11 +52,9 @@ pub fn once_at(
 fn here_of(alloc: Global, found: &Found<'_>) -> Result<Here, NoMemory>
     ensures { IfOk result (λ here. (here.line ≡ found.now.spot.line) × (here.file ≡ begun_path (slice_get (named found.now.graph.paths found.now.graph.items) found.now.spot.start))) }
 {
-    let mut file = Vec::new(alloc);
-    file.extend_from_slice(begun_path(&found.graph, found.spot.start)?)?;
     Ok(Here {
         line: u64::from(found.spot.line),
-        file: Bytes::from_vec(file),
+        file: Bytes::from_slice(alloc, begun_path(&found.graph, found.spot.start)?)?,
     })
 }
 
@@ -83,7 +81,7 @@ fn line_of(alloc: Global, tokens: &Tokens) -> Result<Bytes, QueryFault>
     ensures { Answers result (PrintsLine (Ok tokens.now)) }
 {
     let mut telling = Telling::new(alloc);
-    telling.text = print_tokens(alloc, tokens)?.into_vec();
+    telling.text = print_tokens(alloc, tokens)?.into_vec()?;
     telling.text.push(b'\n')?;
     telling.settle();
     telling.finish()

@@ -51,7 +51,7 @@ impl Params {
             mut names,
             mut known,
         } = self;
-        names.push(Bytes::from_vec(Vec::from_slice(alloc, name)?))?;
+        names.push(Bytes::from_slice(alloc, name)?)?;
         known.insert(Vec::from_slice(alloc, name)?)?;
         Ok(Params { names, known })
     }

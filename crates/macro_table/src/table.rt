@@ -47,7 +47,7 @@ impl Table {
         ensures err { OnErr result (self.new ≡ self.old) }
     {
         let name = Vec::from_slice(self.alloc, name_of(text))?;
-        let text = Bytes::from_vec(Vec::from_slice(self.alloc, text)?);
+        let text = Bytes::from_slice(self.alloc, text)?;
         let place = place.copy()?;
         match self.entries.insert(name, Entry { text, place }) {
             Ok(_) => Ok(()),
@@ -75,7 +75,7 @@ impl Table {
     {
         let mut names = Paths::new(self.alloc);
         for name in self.entries.keys() {
-            names.push(Bytes::from_vec(Vec::from_slice(self.alloc, name.as_slice())?))?;
+            names.push(Bytes::from_slice(self.alloc, name.as_slice())?)?;
         }
         Ok(names)
     }

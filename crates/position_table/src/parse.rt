@@ -91,6 +91,6 @@ fn named(alloc: Global, path: &[u8], field: &[u8]) -> Result<Option<Position>, N
     let Some(line) = number(field) else {
         return Ok(None);
     };
-    let path = Bytes::from_vec(Vec::from_slice(alloc, path)?);
+    let path = Bytes::from_slice(alloc, path)?;
     Ok(Some(Position::Named { path, line }))
 }

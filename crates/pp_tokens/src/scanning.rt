@@ -14,8 +14,8 @@ use mac_base::{Bytes, NoMemory};
 use std::alloc::Global;
 
 /// Puts the byte in front at the end of a text, and goes past it.
-fn take_byte(text: &mut Vec<u8>, chars: &mut Chars<'_>) -> Result<(), NoMemory>
-    ensures text { OnOk result (text.new.items ≡ text.old.items ++ bytes_of (take 1 chars.old)) }
+fn take_byte(text: &mut Bytes, chars: &mut Chars<'_>) -> Result<(), NoMemory>
+    ensures text { OnOk result (text.new ≡ text.old ++ bytes_of (take 1 chars.old)) }
     ensures left { OnOk result (chars.new ≡ drop 1 chars.old) }
 {
     if let Some(byte) = chars.peek() {
@@ -30,11 +30,11 @@ fn take_text(alloc: Global, count: usize, chars: &mut Chars<'_>) -> Result<Bytes
     ensures text { IfOk result (λ text. text ≡ bytes_of (take count chars.old)) }
     ensures left { OnOk result (chars.new ≡ drop count chars.old) }
 {
-    let mut text = Vec::with_capacity(alloc, count)?;
+    let mut text = Bytes::new(alloc);
     for _ in 0..count {
         take_byte(&mut text, chars)?;
     }
-    Ok(Bytes::from_vec(text))
+    Ok(text)
 }
 
 /// Puts the piece in front, of this length, on the page.

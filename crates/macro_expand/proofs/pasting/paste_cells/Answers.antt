@@ -20,6 +20,9 @@ returns-in_err-last c =
 pub loop-cell-preserved-in_ok-last-3 : goal.loop-cell-preserved-in_ok-last-3
 loop-cell-preserved-in_ok-last-3 c = paste_joined c.args.rest.items c.loop-cell.rest.items c.pop-in-loop-cell.new.self.items c.loop-cell.done.items c.loop-cell.last c.in-Some-pop.cell c.loop-cell.invariant c.in-Some-pop.ensures.items c.pop-then-is_joins.new.self.items c.in-Some-pop-2.right c.in-Some-pop-2.ensures.items (sym c.is_joins.ensures ∙ c.if-is_joins.true) c.in_ok-last.last c.in_ok-last.ensures
 
+pub loop-cell-preserved-in_ok-last-4 : goal.loop-cell-preserved-in_ok-last-4
+loop-cell-preserved-in_ok-last-4 c = paste_joined c.args.rest.items c.loop-cell.rest.items c.pop-in-loop-cell.new.self.items c.loop-cell.done.items c.loop-cell.last c.in-Some-pop.cell c.loop-cell.invariant c.in-Some-pop.ensures.items c.pop-then-is_joins.new.self.items c.in-Some-pop-2.right c.in-Some-pop-2.ensures.items (sym c.is_joins.ensures ∙ c.if-is_joins.true) c.in_ok-last.last c.in_ok-last.ensures
+
 pub loop-cell-preserved : goal.loop-cell-preserved
 loop-cell-preserved c = paste_word c.args.rest.items c.loop-cell.rest.items c.pop-in-loop-cell.new.self.items c.loop-cell.done.items c.loop-cell.last c.in-Some-pop.cell c.loop-cell.invariant c.in-Some-pop.ensures.items c.push-else-is_joins.new.self.items c.in_ok-push-3.ensures.items (sym c.is_joins.ensures ∙ c.if-is_joins.false)
 

@@ -17,7 +17,7 @@ invariant_of-self-2 c =
       rw c.in_ok-remember.ensures.ok
           (remembered c.self.inside.table.now c.self.inside.known.entries c.in_ok-from_slice-2.field-0 v c.self.invariant.0
           (meaning_read c.self.inside.table.now c.args.name.now c.in_ok-from_slice-2.field-0.items c.as_slice.result.now (entry_value c.in-Some-get.entry.now) v c.in-Some-get.ensures c.in_ok-def.ensures c.as_slice.ensures
-          (c.in_ok-own.ensures ∙ c.from_vec.ensures ∙ c.in_ok-from_slice.ensures.items) c.in_ok-from_slice-2.ensures.items)),
+          (c.in_ok-own.ensures ∙ c.in_ok-from_slice.ensures.items) c.in_ok-from_slice-2.ensures.items)),
       c.add_name.ensures,
       c.self.invariant.2,
     )
