@@ -70,6 +70,7 @@ pub record CausedBy (path_before path_now shelf_before shelf_now : ℕ) (failed 
   pub path_later : path_before ≤ path_now
   pub shelf_later : shelf_before ≤ shelf_now
   pub rose : failed → Rose path_before path_now ⊎ Rose shelf_before shelf_now
+  pub kept : (failed → ⊥) → (path_now ≡ path_before) × (shelf_now ≡ shelf_before)
 
 -- the whole text, within the limit of a report, or none where it is longer
 abbrev pub IsText : Option (Vec ℕ Global) → List ℕ → Type 0

@@ -1,5 +1,5 @@
 ghost use Rattle.std.specs.Prelude.{◌≡◌, ◌≤◌, ◌≢◌, ◌⊎◌};
-ghost use Rattle.mac_io.specs.Causes.{Rose};
+ghost use Rattle.mac_io.specs.Causes.{HasCause, Rose};
 ghost use Rattle.mac_io.specs.Calls.{GrowsByFront};
 ghost use Rattle.dwmac_run.specs.Leaves.{outside_line};
 ghost use Rattle.dwmac_run.specs.Refusals.{refusal_line, expand_line};
@@ -24,6 +24,8 @@ pub fn finish<O: Sink, E: Sink>(outcome: Outcome<'_>, out: &mut O, err: &mut E) 
     ensures err { E.count err.old ≤ E.count err.new }
     ensures cause { result ≡ Status.Outside →
         HasFailed outcome.entry ⊎ (Rose (O.count out.old) (O.count out.new) ⊎ Rose (E.count err.old) (E.count err.new)) }
+    ensures failed { HasFailed outcome.entry → result ≡ Status.Outside }
+    ensures kept { result ≢ Status.Outside → (O.count out.new ≡ O.count out.old) × (E.count err.new ≡ E.count err.old) }
 {
     match outcome {
         Outcome::Report(text) => match write_lines(out, text.as_slice()) {
@@ -48,8 +50,7 @@ pub fn finish<O: Sink, E: Sink>(outcome: Outcome<'_>, out: &mut O, err: &mut E) 
 /// Prints the line on a refused file.
 fn refuse<E: Sink>(err: &mut E, file: &[u8], refusal: Refusal) -> Status
     ensures said { EndsSaying (refusal_line file.now refusal) Status.Refused result (E.text err.old) (E.text err.new) }
-    ensures later { E.count err.old ≤ E.count err.new }
-    ensures cause { result ≡ Status.Outside → Rose (E.count err.old) (E.count err.new) }
+    ensures cause { HasCause (E.count err.old) (E.count err.new) (result ≡ Status.Outside) }
 {
     let (words, number) = refusal.words();
     let mut hexadecimal = [0; 64];
@@ -64,8 +65,7 @@ fn refuse<E: Sink>(err: &mut E, file: &[u8], refusal: Refusal) -> Status
 /// Prints the line on a text that has no expansion.
 fn refuse_expansion<E: Sink>(err: &mut E, fault: &ExpandFault) -> Status
     ensures said { EndsSaying (expand_line fault.now) Status.Refused result (E.text err.old) (E.text err.new) }
-    ensures later { E.count err.old ≤ E.count err.new }
-    ensures cause { result ≡ Status.Outside → Rose (E.count err.old) (E.count err.new) }
+    ensures cause { HasCause (E.count err.old) (E.count err.new) (result ≡ Status.Outside) }
 {
     let mut decimal = Buffer::new();
     let fields = expand_fields(fault, &mut decimal);
@@ -78,8 +78,7 @@ fn refuse_expansion<E: Sink>(err: &mut E, fault: &ExpandFault) -> Status
 /// Prints the line on the fault of a translation unit.
 fn refuse_unit<E: Sink>(err: &mut E, fault: &PpFault) -> Status
     ensures said { EndsSaying (unit_line fault.now) Status.Refused result (E.text err.old) (E.text err.new) }
-    ensures later { E.count err.old ≤ E.count err.new }
-    ensures cause { result ≡ Status.Outside → Rose (E.count err.old) (E.count err.new) }
+    ensures cause { HasCause (E.count err.old) (E.count err.new) (result ≡ Status.Outside) }
 {
     let mut number = Buffer::new();
     let mut room = Buffer::new();
@@ -105,8 +104,7 @@ fn file_shown(fault: &PpFault) -> &[u8]
 fn say<E: Sink>(err: &mut E, line: &[u8], status: Status) -> Status
     requires { status ≢ Status.Outside }
     ensures said { EndsSaying line.now status result (E.text err.old) (E.text err.new) }
-    ensures later { E.count err.old ≤ E.count err.new }
-    ensures cause { result ≡ Status.Outside → Rose (E.count err.old) (E.count err.new) }
+    ensures cause { HasCause (E.count err.old) (E.count err.new) (result ≡ Status.Outside) }
 {
     match err.write(line) {
         Wrote::Done => status,

@@ -1,4 +1,4 @@
-ghost use Rattle.std.specs.Prelude.{◌≡◌, ◌≤◌, ◌⊎◌, [], Some};
+ghost use Rattle.std.specs.Prelude.{◌≡◌, ◌≢◌, ◌≤◌, ◌⊎◌, [], Some};
 ghost use Rattle.mac_io.specs.Causes.{Rose};
 ghost use Rattle.mac_io.specs.Files.{Files};
 ghost use Rattle.dwmac_run.specs.Units.{AllTold};
@@ -38,6 +38,10 @@ pub fn run<P: Headers, S: Shelf, O: Sink, E: Sink>(
     // The outside is blamed only where a call on it failed.
     ensures outside { result ≡ Status.Outside → (Rose (P.count path.old) (P.count path.new) ⊎ Rose (S.count shelf.old) (S.count shelf.new))
         ⊎ (Rose (O.count out.old) (O.count out.new) ⊎ Rose (E.count err.old) (E.count err.new)) }
+
+    // No failure is passed over: where the outside is not blamed, no call on it failed.
+    ensures kept { result ≢ Status.Outside → (P.count path.new ≡ P.count path.old) × (S.count shelf.new ≡ S.count shelf.old)
+        × (O.count out.new ≡ O.count out.old) × (E.count err.new ≡ E.count err.old) }
 
     // The files are as before, no store is left on the path, and no count has fallen.
     ensures files { S.files shelf.new ≡ S.files shelf.old }
