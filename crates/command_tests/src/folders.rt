@@ -1,12 +1,8 @@
 // Runs of commands that walk translation units, over header stores in memory.
-ghost use Rattle.std.specs.Prelude.{◌≡◌, ◌≤◌, ◌<◌, ◌++◌, [], ◌∷◌, length, IfOk, OnOk};
-ghost use Rattle.dwmac_run.specs.Command.{labels_of};
-ghost use Rattle.dwmac_run.specs.Roots.{labels, AreWanted};
-
 use crate::stage::{bytes_of, paths_of};
-use dwmac_run::{Roots, RootsFault, Status, roots_of, run};
-use mac_base::{Bytes, NoMemory, Paths};
-use mac_io::{HeaderStore, Headers, MapShelf, MapStore, SearchPath, VecSink, are_distinct};
+use dwmac_run::{Status, add_store, labels_for, run};
+use mac_base::{NoMemory, Paths};
+use mac_io::{MapShelf, MapStore, SearchPath, VecSink, are_distinct};
 use std::alloc::Global;
 use std::process::Abort;
 use std::test::Fail;
@@ -57,29 +53,6 @@ fn store_of(alloc: Global, folder: &Folder<'_>) -> Result<MapStore, NoMemory> {
     ))
 }
 
-/// The labels of the stores that the words call for; none where they fit no command.
-fn labels_for(alloc: Global, words: &Paths) -> Result<Paths, NoMemory>
-    ensures wanted { IfOk result (λ named. AreWanted (labels_of words.now) named) }
-    ensures few { IfOk result (λ named. length named ≤ 256) }
-{
-    match roots_of(alloc, words) {
-        Ok(Roots::Labelled(named)) => Ok(named),
-        Err(RootsFault::Usage) => Ok(Paths::new(alloc)),
-        Err(RootsFault::NoMemory) => Err(NoMemory),
-    }
-}
-
-/// Puts a store on a path.
-fn add(path: &mut SearchPath, label: &Bytes, store: Box<dyn HeaderStore>) -> Result<(), NoMemory>
-    requires { length (labels (⟦<SearchPath as Headers>⟧.stores path.old)) < 256 }
-    ensures { OnOk result (labels (⟦<SearchPath as Headers>⟧.stores path.new) ≡ labels (⟦<SearchPath as Headers>⟧.stores path.old) ++ label.now ∷ []) }
-{
-    match path.push(label.copy()?, store) {
-        Ok(()) => Ok(()),
-        Err(_) => Err(NoMemory),
-    }
-}
-
 /// Runs words over a path with a store for each label that they call for: the folder at its place, or an empty one.
 pub fn run_over(
     alloc: Global,
@@ -95,7 +68,7 @@ pub fn run_over(
     for label in named.as_slice() {
         let here = left.next().copied().unwrap_or(holding(&[]));
         let store = Box::new(alloc, store_of(alloc, &here)?)?;
-        let Ok(()) = add(&mut path, label, store) else {
+        let Ok(()) = add_store(&mut path, label, store) else {
             return Err(NoMemory);
         };
     }

@@ -18,6 +18,6 @@ mod unit_fault;
 mod units;
 
 pub use laws::each_run_has_one_answer;
-pub use roots::{Roots, RootsFault, roots_of};
+pub use roots::{Roots, RootsFault, add_store, labels_for, roots_of};
 pub use status::Status;
 pub use top::run;

@@ -1,11 +1,12 @@
 // The stores that a run needs.
-ghost use Rattle.std.specs.Prelude.{◌≡◌, IfOk};
+ghost use Rattle.std.specs.Prelude.{◌≡◌, ◌≤◌, ◌<◌, ◌++◌, [], ◌∷◌, length, IfOk, OnOk};
 ghost use Rattle.dwmac_run.specs.declared.roots.RootsFault.TheVariants.{NoMemory as RanOut};
 ghost use Rattle.dwmac_run.specs.Command as spec;
-ghost use Rattle.dwmac_run.specs.Roots.{AreRoots, AreFew};
+ghost use Rattle.dwmac_run.specs.Roots.{AreRoots, AreFew, AreWanted, labels};
 
 use crate::command::{Command, command_of};
 use mac_base::{Bytes, NoMemory, Paths};
+use mac_io::{HeaderStore, Headers, SearchPath};
 use std::alloc::Global;
 use thiserror::Error;
 
@@ -44,6 +45,33 @@ pub fn roots_of(alloc: Global, words: &Paths) -> Result<Roots, RootsFault>
         Ok(Some(command)) => Ok(Roots::Labelled(labels_by(alloc, command)?)),
         Ok(None) => Err(RootsFault::Usage),
         Err(NoMemory) => Err(RootsFault::NoMemory),
+    }
+}
+
+/// The labels of the stores that the words call for; none where they fit no command.
+pub fn labels_for(alloc: Global, words: &Paths) -> Result<Paths, NoMemory>
+    ensures wanted { IfOk result (λ named. AreWanted (spec.labels_of words.now) named) }
+    ensures few { IfOk result (λ named. length named ≤ 256) }
+{
+    match roots_of(alloc, words) {
+        Ok(Roots::Labelled(named)) => Ok(named),
+        Err(RootsFault::Usage) => Ok(Paths::new(alloc)),
+        Err(RootsFault::NoMemory) => Err(NoMemory),
+    }
+}
+
+/// Puts a store on a path, behind the others.
+pub fn add_store(
+    path: &mut SearchPath,
+    label: &Bytes,
+    store: Box<dyn HeaderStore>,
+) -> Result<(), NoMemory>
+    requires { length (labels (⟦<SearchPath as Headers>⟧.stores path.old)) < 256 }
+    ensures { OnOk result (labels (⟦<SearchPath as Headers>⟧.stores path.new) ≡ labels (⟦<SearchPath as Headers>⟧.stores path.old) ++ label.now ∷ []) }
+{
+    match path.push(label.copy()?, store) {
+        Ok(()) => Ok(()),
+        Err(_) => Err(NoMemory),
     }
 }
 
