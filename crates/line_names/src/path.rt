@@ -136,7 +136,7 @@ fn path_of(alloc: Global, directories: &[Name<'_>], entry: &Entry<'_>) -> Result
 {
     let name = entry.path.text();
     if entry.directory == 0 || begins_with_slash(name) {
-        return Ok(Bytes::from_slice(alloc, name)?);
+        return Bytes::from_slice(alloc, name);
     }
     joined(alloc, text_of(directories, entry.directory), name)
 }

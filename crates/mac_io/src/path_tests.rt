@@ -12,7 +12,7 @@ use std::process::Abort;
 use std::test::Fail;
 
 fn bytes_of(alloc: Global, text: &[u8]) -> Result<Bytes, NoMemory> {
-    Ok(Bytes::from_slice(alloc, text)?)
+    Bytes::from_slice(alloc, text)
 }
 
 /// The words of a text.

@@ -31,7 +31,7 @@ pub fn path_text(alloc: Global, label: &[u8], name: &[u8]) -> Result<Bytes, NoMe
     ensures { IfOk result (λ path. path ≡ path_text label.now name.now) }
 {
     if label.is_empty() {
-        return Ok(Bytes::from_slice(alloc, name)?);
+        return Bytes::from_slice(alloc, name);
     }
     let mut path = Vec::from_slice(alloc, label)?;
     path.push(b'/')?;

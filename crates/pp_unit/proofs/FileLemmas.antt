@@ -109,6 +109,13 @@ followed : (stores : Stores) (left : ℕ) (within : Within) (bytes : List ℕ) (
 followed stores left within bytes m t lines r lexes runs ends =
     walks_by stores left within bytes m r (Followed lines lexes (Goes {s = t} (((lines_run (rules stores left within)).same (with_roles lines) m (Ok t)).0 runs) ends))
 
+-- the run from the state and over the lines that the call before left
+pub runs_lines : (stores : Stores) (left : ℕ) (within : Within) (marks : List Mark) (after before : Seen) (given lines : List Line) (r : Result Seen Stop) → after ≡ before → given ≡ lines →
+    StopComesTo within (Runs (rules stores left within) [] (with_roles given) (with_marks after marks)) r → StopComesTo within (Runs (rules stores left within) [] (with_roles lines) (with_marks before marks)) r
+runs_lines stores left within marks after before given lines r same is runs =
+    subst (λ (ls : List Line). StopComesTo within (Runs (rules stores left within) [] (with_roles ls) (with_marks before marks)) r) is
+    (subst (λ (s : Seen). StopComesTo within (Runs (rules stores left within) [] (with_roles given) (with_marks s marks)) r) same runs)
+
 -- a file that is followed and ends
 pub file_ends : (stores : Stores) (left : ℕ) (within : Within) (bytes : List ℕ) (m : Marked) (lines : List Line) (seen after : Seen) → LexesFile bytes (Ok lines) →
     StopComesTo within (Runs (rules stores left within) [] (with_roles lines) m) (Ok seen) → added seen End ≡ Ok after → FileComesTo (Walks stores (suc left) within bytes m) (Ok after)

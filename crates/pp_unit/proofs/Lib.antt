@@ -1,5 +1,6 @@
 pub mod RecordLemmas
 pub mod KnownLemmas
+pub mod KeptLemmas
 pub mod Traces
 pub mod MarkLemmas
 pub mod AgreeLemmas

@@ -171,20 +171,13 @@ pub fn follow_commands(so_far: Record, commands: &[Command]) -> Result<Record, P
     Ok(so_far)
 }
 
-/// A list of its own of these bytes.
-fn text(alloc: Global, bytes: &[u8]) -> Result<Bytes, NoMemory>
-    ensures { IfOk result (λ copied. copied ≡ bytes.now) }
-{
-    Ok(Bytes::from_vec(Vec::from_slice(alloc, bytes)?))
-}
-
 /// What is predefined (C17 6.10.8.1).
 pub fn predefine(alloc: Global) -> Result<Record, PpKind>
     ensures { Answers RanOut result (Ok predefined) }
 {
     let none = Record::empty(alloc);
-    let first = none.define(0, text(alloc, b"__STDC__ 1")?)?;
-    let second = first.define(0, text(alloc, b"__STDC_HOSTED__ 1")?)?;
-    let third = second.define(0, text(alloc, b"__STDC_VERSION__ 201710L")?)?;
+    let first = none.define(0, Bytes::from_slice(alloc, b"__STDC__ 1")?)?;
+    let second = first.define(0, Bytes::from_slice(alloc, b"__STDC_HOSTED__ 1")?)?;
+    let third = second.define(0, Bytes::from_slice(alloc, b"__STDC_VERSION__ 201710L")?)?;
     Ok(third)
 }

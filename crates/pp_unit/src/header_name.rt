@@ -56,7 +56,7 @@ fn named(alloc: Global, form: Form, name: &[u8]) -> Result<HeaderName, PpKind>
     if name.is_empty() {
         return Err(PpKind::BadInclude);
     }
-    let name = Bytes::from_vec(Vec::from_slice(alloc, name)?);
+    let name = Bytes::from_slice(alloc, name)?;
     Ok(HeaderName { form, name })
 }
 

@@ -7,6 +7,7 @@ mod direct;
 mod fault;
 mod header;
 mod header_name;
+mod lexed_files;
 mod line_number;
 mod once_files;
 mod open;

@@ -1,5 +1,4 @@
-ghost use Rattle.std.specs.Prelude.{◌≡◌, ◌⊎◌, ◌<◌, ℕ, List, length, IfOk, IfErr, not, Ok, Err};
-ghost use Rattle.pp_tokens.specs.Cut.{LexesFile};
+ghost use Rattle.std.specs.Prelude.{◌≡◌, ◌<◌, ℕ, List, length, IfOk, IfErr, not};
 ghost use Rattle.pp_directives.specs.Directives.{directive_of};
 ghost use Rattle.pp_unit.specs.declared.fault.PpKind.TheVariants.{NoMemory as RanOut};
 ghost use Rattle.pp_unit.specs.Seen.{macros};
@@ -10,7 +9,7 @@ ghost use Rattle.pp_unit.specs.Questions.{operands, here_of, AnswersBy};
 ghost use Rattle.pp_unit.specs.HeaderNames.{NamesHeader};
 ghost use Rattle.pp_unit.specs.Files.{inside, last_number};
 ghost use Rattle.pp_unit.specs.Recorded.{ComesTo};
-ghost use Rattle.pp_unit.specs.Stopping.{IsUnlexed, Given, Turned, is_include, IsFoundIn};
+ghost use Rattle.pp_unit.specs.Stopping.{Given, Turned, is_include, IsFoundIn};
 
 use crate::direct::copied;
 use crate::fault::PpKind;
@@ -22,23 +21,7 @@ use crate::within::Within;
 use mac_base::{Bytes, Frame, Frames, NoMemory};
 use mac_io::{FileId, Headers, Located};
 use pp_directives::{Conditions, Directive, directive_of};
-use pp_tokens::{LexFault, Line, Lines, lex_file};
-use std::alloc::Global;
-
-/// The lines of a file, or its fault with the line where that stands.
-pub fn lexed(alloc: Global, bytes: &[u8]) -> Result<Lines, (u64, PpKind)>
-    ensures ok { IfOk result (λ lines. LexesFile bytes.now (Ok lines)) }
-    ensures err { IfErr result (λ f. (f.1 ≡ RanOut) ⊎ IsUnlexed bytes.now f.0 f.1) }
-{
-    match lex_file(alloc, bytes) {
-        Ok(lines) => Ok(lines),
-        Err(LexFault::NoMemory) => Err((0, PpKind::NoMemory)),
-        Err(LexFault::NulByte { line }) => { Err((line, PpKind::Lex(LexFault::NulByte { line }))) }
-        Err(LexFault::OpenComment { line }) => {
-            Err((line, PpKind::Lex(LexFault::OpenComment { line })))
-        }
-    }
-}
+use pp_tokens::Line;
 
 /// What a line is.
 pub fn kind_of(line: &Line) -> Result<Directive, PpKind>

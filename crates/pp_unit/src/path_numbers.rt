@@ -79,7 +79,7 @@ impl PathNumbers {
             mut numbers,
         } = self;
         numbers.insert(Vec::from_slice(alloc, path)?, paths.len())?;
-        paths.push(Bytes::from_vec(Vec::from_slice(alloc, path)?))?;
+        paths.push(Bytes::from_slice(alloc, path)?)?;
         Ok(PathNumbers {
             alloc,
             paths,

@@ -1,10 +1,12 @@
-ghost use Rattle.std.specs.Prelude.{◌≡◌, ◌+◌, ◌<◌, ◌≤◌, ℕ, [], ◌∷◌, ◌++◌, length, Ok, IfOk, OnOk};
+ghost use Rattle.std.specs.Prelude.{◌≡◌, ◌⊎◌, ◌+◌, ◌<◌, ◌≤◌, ℕ, [], ◌∷◌, ◌++◌, length, Ok, IfOk, IfErr, OnOk};
 ghost use Rattle.std.specs.Option.{option_copied};
 ghost use Rattle.macro_table.specs.Answers.{Answers};
 ghost use Rattle.macro_table.specs.Items.{Item, Define, Undef, Start, End};
 ghost use Rattle.pp_directives.specs.Defined.{is_defined, resolved};
 ghost use Rattle.pp_unit.specs.declared.fault.PpKind.TheVariants.{NoMemory as RanOut};
 ghost use Rattle.pp_unit.specs.Seen.{Seen, table, macros, text_in, text_length, texts_length, event_limit, text_limit, added, started, number_of, is_once, with_once};
+ghost use Rattle.pp_tokens.specs.Cut.{LexesFile};
+ghost use Rattle.pp_unit.specs.Stopping.{IsUnlexed};
 ghost use Rattle.pp_directives.specs.declared.fault.ExprFault.TheVariants.{NoMemory as ExprRanOut};
 ghost use Rattle.macro_expand.specs.Answering.{IsAnswer};
 ghost use Rattle.macro_expand.specs.Rules.{ExpandsTo};
@@ -12,6 +14,7 @@ ghost use Rattle.pp_unit.specs.Walk.{AreSeen};
 ghost use Rattle.pp_unit.specs.Recorded.{Admits};
 
 use crate::fault::PpKind;
+use crate::lexed_files::{FileLines, LexedFiles};
 use crate::once_files::OnceFiles;
 use crate::path_numbers::PathNumbers;
 use mac_base::{Bytes, Event, EventList, Events, Frames, NoMemory, Place};
@@ -38,6 +41,7 @@ pub struct Record {
     text: usize,
     files: PathNumbers,
     once: OnceFiles,
+    lexed: LexedFiles,
     /// The places of its entries are empty: only texts count here.
     table: Table,
 }
@@ -65,6 +69,7 @@ impl Record {
             text: 0,
             files: PathNumbers::new(alloc),
             once: OnceFiles::new(alloc),
+            lexed: LexedFiles::new(alloc),
             table: Table::new(alloc),
         }
     }
@@ -96,6 +101,7 @@ impl Record {
             text: so_far,
             files,
             once,
+            lexed,
             mut table,
         } = self;
         let nowhere = Place {
@@ -110,6 +116,7 @@ impl Record {
             text: so_far + long,
             files,
             once,
+            lexed,
             table,
         })
     }
@@ -126,6 +133,7 @@ impl Record {
             text: so_far,
             files,
             once,
+            lexed,
             mut table,
         } = self;
         table.undef(name.as_slice());
@@ -136,6 +144,7 @@ impl Record {
             text: so_far + long,
             files,
             once,
+            lexed,
             table,
         })
     }
@@ -151,6 +160,7 @@ impl Record {
             text,
             files,
             once,
+            lexed,
             table,
         } = self;
         list.push(Event::End)?;
@@ -160,6 +170,7 @@ impl Record {
             text,
             files,
             once,
+            lexed,
             table,
         })
     }
@@ -175,6 +186,7 @@ impl Record {
             text,
             files,
             once,
+            lexed,
             table,
         } = self;
         let file = files.number_of(path) as u32;
@@ -186,6 +198,7 @@ impl Record {
             text,
             files,
             once,
+            lexed,
             table,
         })
     }
@@ -214,6 +227,7 @@ impl Record {
             text,
             files,
             once,
+            lexed,
             table,
         } = self;
         let once = once.with_file(id)?;
@@ -223,8 +237,19 @@ impl Record {
             text,
             files,
             once,
+            lexed,
             table,
         })
+    }
+
+    /// The lines of the file of this path, or its fault with the line where that stands.
+    pub fn lines_of(&mut self, path: &[u8], bytes: &[u8]) -> Result<FileLines, (u64, PpKind)>
+        ensures same { self.new ≡ self.old }
+        ensures ok { IfOk result (λ lines. LexesFile bytes.now (Ok lines)) }
+        ensures err { IfErr result (λ f. (f.1 ≡ RanOut) ⊎ IsUnlexed bytes.now f.0 f.1) }
+    {
+        let number = self.files.number_of(path);
+        self.lexed.lines_of(number, bytes)
     }
 
     /// The text of a name, where it has one.

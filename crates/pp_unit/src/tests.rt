@@ -1,14 +1,14 @@
-ghost use Rattle.std.specs.Prelude.{◌<◌, length};
+ghost use Rattle.std.specs.Prelude.{◌<◌, length, None};
 
 use crate::{Command, Commands, PpFault, UnitSpec, preprocess};
 use mac_base::{Bytes, Event, NoMemory, Paths};
-use mac_io::{Headers, MapStore, SearchPath, are_distinct};
+use mac_io::{Fetched, HeaderStore, Headers, MapStore, SearchPath, are_distinct};
 use std::alloc::Global;
 use std::process::Abort;
 use std::test::Fail;
 
 fn bytes(alloc: Global, text: &[u8]) -> Result<Bytes, NoMemory> {
-    Ok(Bytes::from_vec(Vec::from_slice(alloc, text)?))
+    Bytes::from_slice(alloc, text)
 }
 
 fn paths(alloc: Global, texts: &[&[u8]]) -> Result<Paths, NoMemory> {
@@ -32,6 +32,36 @@ fn store(
     assert!(rt; are_distinct(&names));
     assert_eq!(rt; names.len(), contents.len());
     Ok(MapStore::new(alloc, names, contents, Vec::from_slice(alloc, fails)?))
+}
+
+/// A store in which every name is another file each time that it asks.
+#[derive(Drop)]
+struct Changing {
+    /// The files that are to come, the next one last.
+    left: Vec<Bytes>,
+}
+
+impl HeaderStore for Changing {
+    ghost files = { λ _. None };
+
+    ghost count = { λ _. 0 };
+
+    fn fetch(&mut self, _name: &[u8], limit: usize, into: &mut Vec<u8>) -> Fetched {
+        let Some(file) = self.left.pop() else {
+            return Fetched::Absent;
+        };
+        if file.len() > limit {
+            return Fetched::TooLong;
+        }
+        match into.extend_from_slice(file.as_slice()) {
+            Ok(()) => Fetched::Found,
+            Err(_) => Fetched::NoMemory,
+        }
+    }
+
+    fn faults(&self) -> u64 {
+        0
+    }
 }
 
 /// Puts an event at the end of a text.
@@ -91,7 +121,23 @@ fn said(alloc: Global, path: &mut SearchPath, spec: &UnitSpec) -> Result<Vec<u8>
     Ok(text)
 }
 
-/// Checks what a unit comes to whose primary file is `a.c`, beside `p.h`, `d/u.h` and `d/q.h`.
+/// Checks what a unit comes to, behind what is predefined.
+fn check_over(
+    rt: &impl Abort,
+    alloc: Global,
+    path: &mut SearchPath,
+    spec: &UnitSpec,
+    wanted: &[u8],
+) -> Result<(), Fail>
+    requires { 0 < length (⟦<SearchPath as Headers>⟧.stores path.old) }
+{
+    let text = said(alloc, path, spec)?;
+    let front = b"+__STDC__ 1+__STDC_HOSTED__ 1+__STDC_VERSION__ 201710L".as_slice();
+    assert_eq!(rt; text.strip_prefix(front).unwrap_or(text.as_slice()), wanted);
+    Ok(())
+}
+
+/// Checks what a unit comes to whose primary file is `a.c`, beside `p.h`, `t.h`, `d/u.h` and `d/q.h`.
 fn check(
     rt: &impl Abort,
     alloc: Global,
@@ -104,10 +150,11 @@ fn check(
     let first = store(
         rt,
         alloc,
-        &[b"a.c", b"p.h", b"d/u.h", b"d/q.h"],
+        &[b"a.c", b"p.h", b"t.h", b"d/u.h", b"d/q.h"],
         &[
             content,
             b"#pragma once\n#define A 1\n",
+            b"#ifdef T\n#undef T\n#else\n#define T 1\n#endif\n",
             b"#include \"q.h\"\n",
             b"#undef Q\n",
         ],
@@ -122,10 +169,7 @@ fn check(
         path.push(bytes(alloc, b"inc")?, Box::new(alloc, second)?)
             .is_ok()
     );
-    let text = said(alloc, &mut path, spec)?;
-    let front = b"+__STDC__ 1+__STDC_HOSTED__ 1+__STDC_VERSION__ 201710L".as_slice();
-    assert_eq!(rt; text.strip_prefix(front).unwrap_or(text.as_slice()), wanted);
-    Ok(())
+    check_over(rt, alloc, &mut path, spec, wanted)
 }
 
 #[test]
@@ -184,6 +228,10 @@ fn headers_are_included(rt: HostRuntime) -> Result<(), Fail> {
         ),
         (b"#define H \"p.h\"\n#include H\n", b"<0+H \"p.h\"<1+A 1>>"),
         (b"#include <k.h>\n", b"<0<1+K 1>>"),
+        (
+            b"#include \"t.h\"\n#include \"t.h\"\n#include \"t.h\"\n",
+            b"<0<1+T 1><1-T><1+T 1>>",
+        ),
         (b"#include <p.h>\n", b"a.c:1: no such file"),
         (b"#include \"d/u.h\"\n", b"<0<1<2-Q>>>"),
         (b"#include \"a.c\"\n", b"a.c:1: too many open files"),
@@ -199,6 +247,28 @@ fn headers_are_included(rt: HostRuntime) -> Result<(), Fail> {
         &[2],
         b"a.c:1: a store failed",
     )
+}
+
+#[test]
+fn a_header_that_was_changed_gives_its_new_lines(rt: HostRuntime) -> Result<(), Fail> {
+    let alloc = rt.alloc();
+    let spec = unit(alloc, &[], &[])?;
+    let source = b"#include <t.h>\n#include <t.h>\n#include <t.h>\n".as_slice();
+    let first = store(&rt, alloc, &[b"a.c"], &[source], &[])?;
+    let left = paths(alloc, &[b"#define A 1\n", b"#undef A\n", b"#define A 1\n"])?;
+    let second = Changing {
+        left: left.into_vec(),
+    };
+    let mut path = SearchPath::new(alloc);
+    assert!(rt;
+        path.push(bytes(alloc, b"")?, Box::new(alloc, first)?)
+            .is_ok()
+    );
+    assert!(rt;
+        path.push(bytes(alloc, b"inc")?, Box::new(alloc, second)?)
+            .is_ok()
+    );
+    check_over(&rt, alloc, &mut path, &spec, b"<0<1+A 1><1-A><1+A 1>>")
 }
 
 #[test]

@@ -10,7 +10,7 @@ use crate::direct::follow_directive;
 use crate::fault::{PpFault, PpKind};
 use crate::header::HeaderName;
 use crate::open::{
-    found_in, header_of, included, is_conditional, is_include, kind_of, last_number, lexed, turn,
+    found_in, header_of, included, is_conditional, is_include, kind_of, last_number, turn,
 };
 use crate::record::Record;
 use crate::stop::{Stop, in_line};
@@ -38,7 +38,8 @@ pub fn walk_file<P: Headers>(
     ensures cause { HasCause (P.count path.old) (P.count path.new) (FileFailed result) }
 {
     let alloc = so_far.alloc();
-    let lines = match lexed(alloc, bytes) {
+    let mut so_far = so_far;
+    let lines = match so_far.lines_of(within.path.as_slice(), bytes) {
         Ok(lines) => lines,
         Err((line, what)) => return Err(within.refuse(alloc, line, what)),
     };

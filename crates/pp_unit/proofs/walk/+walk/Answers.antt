@@ -12,7 +12,7 @@ use Rattle.macro_table.specs.Items.{End}
 use Rattle.pp_unit.specs.HeaderNames.{NamesHeader}
 use Rattle.pp_unit.specs.Questions.{operands, here_of}
 use Rattle.pp_unit.specs.Stopping.{with_marks, StopComesTo}
-use Rattle.pp_unit.proofs.FileLemmas.{unnamed, told_name, deep, searched, finds_at, file_unlexed, file_ends, file_end_fails, file_stops, refused_what, file_failed, stop_failed, unlexed_plain}
+use Rattle.pp_unit.proofs.FileLemmas.{unnamed, told_name, deep, searched, finds_at, file_unlexed, file_ends, file_end_fails, file_stops, runs_lines, refused_what, file_failed, stop_failed, unlexed_plain}
 use Rattle.pp_unit.specs.Lines.{Directs}
 use Rattle.pp_unit.proofs.EnterLemmas.{left_inside, frames_inside, start_stops, enter_goes, enter_fails, told_start, not_found, not_found_failed, failed_search, found_is, found_no_failure, once_found, stop_map, entered_found}
 use Rattle.pp_unit.proofs.WalkLemmas.{rules, stop_by, LineSteps, runs_all, runs_more, runs_stop, runs_end, runs_unclosed}
@@ -230,7 +230,7 @@ pub walk_file-returns-in-Ok-end-clause-walked : goal.walk_file-returns-in-Ok-end
 walk_file-returns-in-Ok-end-clause-walked g t c left marks has =
     let stores = g.P.Headers.stores c.args.path.now in
     file_ends stores left c.args.within c.args.bytes.now (with_marks c.args.so_far marks) c.in-Ok.lines c.in-Ok-follow_lines.so_far c.in-Ok-end.so_far c.in-Ok.ensures.ok
-    (subst (λ (ls : List Line). StopComesTo c.args.within (Runs (rules stores left c.args.within) [] (with_roles ls) (with_marks c.args.so_far marks)) (Ok c.in-Ok-follow_lines.so_far)) c.as_slice.ensures (c.in-Ok-follow_lines.ensures.run left marks has))
+    (runs_lines stores left c.args.within marks _ c.args.so_far _ c.in-Ok.lines (Ok c.in-Ok-follow_lines.so_far) c.in-Ok.ensures.same c.as_slice-2.ensures (c.in-Ok-follow_lines.ensures.run left marks has))
     c.in-Ok-end.ensures
 
 pub walk_file-returns-in-Ok-end-clause-cause : goal.walk_file-returns-in-Ok-end-clause-cause
@@ -240,7 +240,7 @@ pub walk_file-returns-in-Err-end-clause-walked : goal.walk_file-returns-in-Err-e
 walk_file-returns-in-Err-end-clause-walked g t c left marks has =
     let stores = g.P.Headers.stores c.args.path.now in
     file_end_fails stores left c.args.within c.args.bytes.now (with_marks c.args.so_far marks) c.in-Ok.lines c.in-Ok-follow_lines.so_far c.last_number.result c.in-Err-end.what c.refuse-in-Err-end.result c.in-Ok.ensures.ok
-    (subst (λ (ls : List Line). StopComesTo c.args.within (Runs (rules stores left c.args.within) [] (with_roles ls) (with_marks c.args.so_far marks)) (Ok c.in-Ok-follow_lines.so_far)) c.as_slice.ensures (c.in-Ok-follow_lines.ensures.run left marks has))
+    (runs_lines stores left c.args.within marks _ c.args.so_far _ c.in-Ok.lines (Ok c.in-Ok-follow_lines.so_far) c.in-Ok.ensures.same c.as_slice-2.ensures (c.in-Ok-follow_lines.ensures.run left marks has))
     (c.last_number.ensures ∙ ap (last_number 0) c.as_slice-in-Err-end.ensures) c.in-Err-end.ensures c.refuse-in-Err-end.ensures
 
 pub walk_file-returns-in-Err-end-clause-cause : goal.walk_file-returns-in-Err-end-clause-cause
@@ -252,7 +252,7 @@ pub walk_file-returns-in-Err-follow_lines-clause-walked : goal.walk_file-returns
 walk_file-returns-in-Err-follow_lines-clause-walked g t c left marks has =
     let stores = g.P.Headers.stores c.args.path.now in
     file_stops stores left c.args.within c.args.bytes.now (with_marks c.args.so_far marks) c.in-Ok.lines c.in-Err-follow_lines.stop c.stop.result c.in-Ok.ensures.ok
-    (subst (λ (ls : List Line). StopComesTo c.args.within (Runs (rules stores left c.args.within) [] (with_roles ls) (with_marks c.args.so_far marks)) (Err c.in-Err-follow_lines.stop)) c.as_slice.ensures (c.in-Err-follow_lines.ensures.run left marks has))
+    (runs_lines stores left c.args.within marks _ c.args.so_far _ c.in-Ok.lines (Err c.in-Err-follow_lines.stop) c.in-Ok.ensures.same c.as_slice-2.ensures (c.in-Err-follow_lines.ensures.run left marks has))
     c.stop.ensures
 
 pub walk_file-returns-in-Err-follow_lines-clause-cause : goal.walk_file-returns-in-Err-follow_lines-clause-cause

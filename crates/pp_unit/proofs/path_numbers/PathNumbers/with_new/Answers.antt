@@ -10,6 +10,6 @@ invariant_of-result c =
     let path = c.args.path.now in
     let new : position (same path) inside.paths ≡ None = ap (λ (paths : List (List ℕ)). position (same path) paths) c.self.view_is ∙ c.requires in
     let behind : c.push.new.self ≡ inside.paths ++ path ∷ [] =
-    c.in_ok-push.ensures.ok ∙ ap (λ (p : List ℕ). inside.paths ++ p ∷ []) (c.from_vec.ensures ∙ c.in_ok-from_slice-2.ensures.items) in
+    c.in_ok-push.ensures.ok ∙ ap (λ (p : List ℕ). inside.paths ++ p ∷ []) c.in_ok-from_slice-2.ensures.items in
     rw (c.in_ok-insert.ensures.entries, behind)
     (numbered_new (λ k. k.items) inside.numbers.entries c.in_ok-from_slice.field-0 c.len.result inside.paths path c.in_ok-from_slice.ensures.items c.len.ensures new c.self.invariant)
