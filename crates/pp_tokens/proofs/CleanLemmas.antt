@@ -193,12 +193,11 @@ plain_front true a bs other = decoded_plain a bs (apart a 63 other)
 plain_front false a bs other = refl
 
 -- a plain byte is the head, and the line stays
-pub plain-behind : (cleans : Bool) (line : ℕ) (bytes : List ℕ) → IsPlace cleans line bytes → IsPlain bytes → left_of cleans line (drop 1 bytes) ≡ drop 1 (left_of cleans line bytes)
-plain-behind cleans line [] place plain = absurd plain
-plain-behind cleans line (a ∷ []) place plain = absurd plain
-plain-behind cleans line (a ∷ b ∷ bs) place plain =
-    ap (λ x. left_of cleans (cond x (line + 1) line) (b ∷ bs)) (sym (apart a 10 plain.1))
-    ∙ ap (drop 1) (sym (place-some cleans line (a ∷ b ∷ bs) (a, 1) place (plain_front cleans a (b ∷ bs) plain.0)))
+pub plain-head : (cleans : Bool) (line a : ℕ) (bs : List ℕ) → IsPlace cleans line (a ∷ bs) → IsPlain (a ∷ bs) → left_of cleans line (a ∷ bs) ≡ record { byte = a; line = line } ∷ left_of cleans line bs
+plain-head cleans line a [] place plain = absurd plain
+plain-head cleans line a (b ∷ bs) place plain =
+    place-some cleans line (a ∷ b ∷ bs) (a, 1) place (plain_front cleans a (b ∷ bs) plain.0)
+    ∙ ap (λ x. record { byte = a; line = line } ∷ left_of cleans (cond x (line + 1) line) (b ∷ bs)) (apart a 10 plain.1)
 
 no_feed_two : (b : ℕ) (bs : List ℕ) → b ≢ 13 → feed (b ∷ bs) ≢ 2
 no_feed_two b [] other is = by (eqb b 10) is

@@ -12,6 +12,7 @@ pub mod PunctLemmas
 pub mod WordLemmas
 pub mod RawLemmas
 pub mod CleanLemmas
+pub mod PlainLemmas
 pub mod UniqueLemmas
 pub mod PrintLemmas
 pub mod LoneLemmas

@@ -1,5 +1,5 @@
 -- What the cursor over a file finds in front of the bytes that phases 1 and 2 have not yet seen.
-use Rattle.std.specs.Prelude.{◌≡◌, ◌≢◌, ℕ, ◌+◌, ◌==◌, ◌^◌, ◌<◌, nat_lt, Bool, true, false, ◌&&◌, if◌then◌else◌, List, [], ◌∷◌, length, drop, Option, None, Some}
+use Rattle.std.specs.Prelude.{◌≡◌, ◌≢◌, ℕ, zero, suc, ◌+◌, ◌==◌, ◌^◌, ◌<◌, nat_lt, Bool, true, false, ◌&&◌, if◌then◌else◌, List, [], ◌∷◌, length, drop, Option, None, Some}
 use Rattle.pp_tokens.specs.Cleaning.{Char, trigraph, cleaned_from, on_line_one}
 
 -- a byte and how many bytes spell it: three for a trigraph
@@ -62,3 +62,8 @@ abbrev pub IsPlain : List ℕ → Type 0
 IsPlain [] = ⊥
 IsPlain (a ∷ []) = ⊥
 IsPlain (a ∷ b ∷ bs) = (a ≢ 63) × (a ≢ 10) × (b ≢ 13) × (b ≢ 92) × (b ≢ 63)
+
+-- so many bytes in front are plain, each before those behind it
+abbrev pub ArePlain : ℕ → List ℕ → Type 0
+ArePlain zero bytes = Unit {0}
+ArePlain (suc n) bytes = IsPlain bytes × ArePlain n (drop 1 bytes)

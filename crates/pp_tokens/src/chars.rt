@@ -1,11 +1,11 @@
-ghost use Rattle.std.specs.Prelude.{◌≡◌, ◌==◌, ◌<◌, ◌≢◌, ◌+◌, ◌^◌, false, [], drop, length};
+ghost use Rattle.std.specs.Prelude.{◌≡◌, ◌==◌, ◌<◌, ◌≢◌, ◌+◌, ◌^◌, false, [], take, drop, length, IfSome};
 ghost use Rattle.pp_tokens.specs.Cleaning.{bytes_of, on_line_one, cleaned, cleaned_from};
 ghost use Rattle.pp_tokens.specs.Cut.{line_of};
 ghost use Rattle.pp_tokens.specs.Kinds.{first_is};
 ghost use Rattle.pp_tokens.specs.Raw.{left_of, line_behind};
 ghost use Rattle.pp_tokens.specs.Scan.{first_byte};
 
-use crate::raw::{behind, front, is_plain, past_return, past_splices};
+use crate::raw::{behind, front, in_front, is_plain, past_return, past_splices, plain_run};
 use std::marker::Model;
 
 /// The bytes of a text that are left, each with its line. Of a file they are cleaned as they are read.
@@ -14,18 +14,20 @@ pub struct Chars<'a> {
     rest: &'a [u8],
     line: u64,
     cleans: bool,
+    /// So many bytes in front are known to be plain: each spells itself, and nothing behind it goes away.
+    plain: usize,
 }
 
 impl<'a> Model for Chars<'a> {
     ghost use Rattle.std.specs.Prelude.{List};
     ghost use Rattle.pp_tokens.specs.Cleaning.{Char};
-    ghost use Rattle.pp_tokens.specs.Raw.{left_of, IsPlace};
+    ghost use Rattle.pp_tokens.specs.Raw.{left_of, IsPlace, ArePlain};
 
     ghost Value = { List Char };
 
     ghost view = { λ c. left_of c.cleans c.line c.rest.now };
 
-    ghost invariant = { λ c. IsPlace c.cleans c.line c.rest.now };
+    ghost invariant = { λ c. IsPlace c.cleans c.line c.rest.now × ArePlain c.plain c.rest.now };
 }
 
 impl<'a> Chars<'a> {
@@ -37,6 +39,7 @@ impl<'a> Chars<'a> {
             rest: bytes,
             line: 1,
             cleans: false,
+            plain: 0,
         }
     }
 
@@ -57,6 +60,7 @@ impl<'a> Chars<'a> {
             rest: past_return(rest),
             line,
             cleans: true,
+            plain: 0,
         }
     }
 
@@ -102,23 +106,37 @@ impl<'a> Chars<'a> {
         self.line
     }
 
+    /// Finds out how many bytes in front are plain, where none is known to be.
+    pub fn look_ahead(&mut self)
+        ensures { self.new ≡ self.old }
+    {
+        if self.plain == 0 {
+            self.plain = plain_run(self.rest);
+        }
+    }
+
     /// Goes past the byte in front.
     #[inline]
     pub fn advance(&mut self)
         ensures { self.new ≡ drop 1 self.old }
     {
-        if is_plain(self.rest) {
+        if self.plain > 0 {
             self.rest = behind(self.rest, 1);
+            self.plain -= 1;
         } else {
             self.advance_slowly();
         }
     }
 
     /// Goes past the byte in front, whatever spells it and stands behind it.
+    #[inline(never)]
     fn advance_slowly(&mut self)
         ensures { self.new ≡ drop 1 self.old }
     {
-        if let Some((byte, width)) = front(self.cleans, self.rest) {
+        if is_plain(self.rest) {
+            self.rest = behind(self.rest, 1);
+            self.plain = 0;
+        } else if let Some((byte, width)) = front(self.cleans, self.rest) {
             *self = Chars::behind(self.cleans, behind(self.rest, width), self.line, byte);
         }
     }
@@ -127,8 +145,24 @@ impl<'a> Chars<'a> {
     pub fn skip(&mut self, count: usize)
         ensures { self.new ≡ drop count self.old }
     {
+        if count <= self.plain {
+            self.rest = behind(self.rest, count);
+            self.plain -= count;
+            return;
+        }
         for _ in 0..count {
             self.advance();
+        }
+    }
+
+    /// The bytes in front, as many as there are, where each spells itself.
+    pub fn plain_text(&self, count: usize) -> Option<&'a [u8]>
+        ensures { IfSome result (λ text. text.now ≡ bytes_of (take count self.now)) }
+    {
+        if count <= self.plain {
+            Some(in_front(self.rest, count))
+        } else {
+            None
         }
     }
 
@@ -141,6 +175,7 @@ impl<'a> Chars<'a> {
             rest: self.rest,
             line: self.line,
             cleans: self.cleans,
+            plain: self.plain,
         }
     }
 }

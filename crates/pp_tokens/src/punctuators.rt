@@ -6,12 +6,16 @@ ghost use Rattle.pp_tokens.specs.Scan.{byte_or_zero, padded, fits, unpadded_leng
 
 use crate::chars::Chars;
 
-/// The punctuators (C17 6.4.6), filled up with zeros. Each stands before those that it begins with.
+/// The punctuators (C17 6.4.6), filled up with zeros. Each stands before those that it begins with, frequent ones in front.
 const PUNCTUATORS: [[u8; 4]; 54] = [
     *b"(\0\0\0",
     *b")\0\0\0",
     *b",\0\0\0",
     *b";\0\0\0",
+    *b"##\0\0",
+    *b"#\0\0\0",
+    *b"*=\0\0",
+    *b"*\0\0\0",
     *b"[\0\0\0",
     *b"]\0\0\0",
     *b"{\0\0\0",
@@ -33,7 +37,6 @@ const PUNCTUATORS: [[u8; 4]; 54] = [
     *b"!=\0\0",
     *b"&&\0\0",
     *b"||\0\0",
-    *b"*=\0\0",
     *b"/=\0\0",
     *b"%=\0\0",
     *b"+=\0\0",
@@ -41,7 +44,6 @@ const PUNCTUATORS: [[u8; 4]; 54] = [
     *b"&=\0\0",
     *b"^=\0\0",
     *b"|=\0\0",
-    *b"##\0\0",
     *b"<:\0\0",
     *b":>\0\0",
     *b"<%\0\0",
@@ -49,7 +51,6 @@ const PUNCTUATORS: [[u8; 4]; 54] = [
     *b"%:\0\0",
     *b".\0\0\0",
     *b"&\0\0\0",
-    *b"*\0\0\0",
     *b"+\0\0\0",
     *b"-\0\0\0",
     *b"!\0\0\0",
@@ -61,7 +62,6 @@ const PUNCTUATORS: [[u8; 4]; 54] = [
     *b"|\0\0\0",
     *b":\0\0\0",
     *b"=\0\0\0",
-    *b"#\0\0\0",
 ];
 
 /// Whether the bytes of a punctuator stand in front of these four.

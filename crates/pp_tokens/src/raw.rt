@@ -1,6 +1,6 @@
-ghost use Rattle.std.specs.Prelude.{◌≡◌, ◌≤◌, ◌<◌, ◌+◌, ◌^◌, ℕ, length, drop, IfSome, IsTrue};
+ghost use Rattle.std.specs.Prelude.{◌≡◌, ◌≤◌, ◌<◌, ◌+◌, ◌^◌, ℕ, length, take, drop, IfSome, IsTrue};
 ghost use Rattle.pp_tokens.specs.Cleaning.{trigraph, cleaned_from};
-ghost use Rattle.pp_tokens.specs.Raw.{decoded, feed, splice, IsSettled, IsPlain, front_of};
+ghost use Rattle.pp_tokens.specs.Raw.{decoded, feed, splice, IsSettled, IsPlain, ArePlain, front_of};
 
 /// The bytes behind the first ones.
 pub fn behind(bytes: &[u8], count: usize) -> &[u8]
@@ -8,6 +8,14 @@ pub fn behind(bytes: &[u8], count: usize) -> &[u8]
     ensures { result.now ≡ drop count bytes.now }
 {
     &bytes[count..]
+}
+
+/// The first bytes.
+pub fn in_front(bytes: &[u8], count: usize) -> &[u8]
+    requires { count ≤ length bytes.now }
+    ensures { result.now ≡ take count bytes.now }
+{
+    &bytes[..count]
 }
 
 /// What a trigraph stands for, by its third byte (C17 5.2.1.1).
@@ -126,4 +134,17 @@ pub fn is_plain(bytes: &[u8]) -> bool
             && *next != b'?',
         _ => false,
     }
+}
+
+/// How many bytes in front are plain, one behind the other.
+pub fn plain_run(bytes: &[u8]) -> usize
+    ensures { ArePlain result bytes.now }
+{
+    let mut rest = bytes;
+    let mut run = 0;
+    while is_plain(rest) {
+        rest = behind(rest, 1);
+        run += 1;
+    }
+    run
 }

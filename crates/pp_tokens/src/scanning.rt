@@ -30,6 +30,11 @@ fn take_text(alloc: Global, count: usize, chars: &mut Chars<'_>) -> Result<Bytes
     ensures text { IfOk result (λ text. text ≡ bytes_of (take count chars.old)) }
     ensures left { OnOk result (chars.new ≡ drop count chars.old) }
 {
+    if let Some(bytes) = chars.plain_text(count) {
+        let text = Bytes::from_slice(alloc, bytes)?;
+        chars.skip(count);
+        return Ok(text);
+    }
     let mut text = Bytes::new(alloc);
     for _ in 0..count {
         take_byte(&mut text, chars)?;
@@ -65,6 +70,7 @@ fn put_piece(
             page.word(kind, text, line)?;
         }
     }
+    chars.look_ahead();
     Ok(())
 }
 

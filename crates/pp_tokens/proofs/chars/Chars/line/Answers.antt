@@ -5,4 +5,4 @@ use Rattle.pp_tokens.proofs.CleanLemmas.{place-line}
 use Rattle.pp_tokens.proofs.chars.Chars.line.Goals as goal
 
 pub returns : goal.returns
-returns c = subst (λ (cs : List Char). cs ≢ [] → c.self.inside.line ≡ line_of cs) c.self.view_is (place-line c.self.inside.cleans c.self.inside.line c.self.inside.rest.now c.self.invariant)
+returns c = subst (λ (cs : List Char). cs ≢ [] → c.self.inside.line ≡ line_of cs) c.self.view_is (place-line c.self.inside.cleans c.self.inside.line c.self.inside.rest.now c.self.invariant.0)
