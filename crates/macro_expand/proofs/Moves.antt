@@ -2,6 +2,7 @@
 use Rattle.std.proofs.Common.{cond, ◌≡◌, ℕ, zero, suc, ◌+◌, ◌-◌, ◌<◌, ◌≤◌, Bool, true, false, List, [], ◌∷◌, ◌++◌, map, take, drop, length, Option, Some, None, Result, Ok, Err, ◌⊎◌, inl, inr, refl, sym, ap, ◌∙◌, subst, arith, length-append, append_assoc, append-nil, if◌then◌else◌}
 use Rattle.std.proofs.lemmas.List.{map_push, length-map}
 use Rattle.mac_base.specs.Input.{◌>>=◌}
+use Rattle.pp_tokens.specs.declared.token.Token.{Token}
 use Rattle.macro_expand.specs.declared.here.Here.{Here}
 use Rattle.macro_expand.specs.declared.fault.ExpandFault.{ExpandFault}
 use Rattle.macro_expand.specs.declared.fault.ExpandFault.TheVariants.{NoMemory, TooLong}
@@ -15,16 +16,17 @@ use Rattle.macro_expand.specs.Macros.{Macros, params_of}
 use Rattle.macro_expand.specs.Calls.{Waiting, waiting, stands_free, first_list, other_lists}
 use Rattle.macro_expand.specs.Substituted.{Argument, substituted}
 use Rattle.macro_expand.specs.Heads.{Call, Head, Finished, Stays, Replaced, Fails, head_of}
-use Rattle.macro_expand.specs.Expansion.{limit, Answer, after, within, each, step_from, expansion}
+use Rattle.macro_expand.specs.Expansion.{limit, Answer, after, within, each, step_from, expansion, tokens_of}
 use Rattle.macro_expand.specs.States.{marked, hidden_names, argument_of, ParamAt, stands_bound}
 use Rattle.macro_expand.specs.Slots.{lists, in_front}
 use Rattle.macro_expand.specs.Taking.{weight, call_of, skip}
-use Rattle.macro_expand.specs.Machine.{finishing, argument_in, returned, outer, resume, meaning, replacing, call_weight, frames_size, size, replacing_size, GoesOn, IsFaultOf, plain_of, lists_after, waiting_in, wanted_in}
+use Rattle.macro_expand.specs.Machine.{finishing, argument_in, returned, outer, resume, meaning, replacing, call_weight, frames_size, size, replacing_size, GoesOn, IsStep, IsFaultOf, with_put, IsPut, TextGoesOn, IsTextStep, plain_of, lists_after, waiting_in, wanted_in}
 use Rattle.macro_expand.proofs.Sizes.{IsSized, head_sized}
 use Rattle.macro_expand.proofs.Steps.{expansion_step}
 use Rattle.macro_expand.proofs.TrimLemmas.{trimmed}
 use Rattle.macro_expand.proofs.OneAnswer.{within_true, within_false}
 use Rattle.macro_expand.proofs.SlotLemmas.{front_first, front_others}
+use Rattle.macro_expand.proofs.TextAnswers.{tokens_same}
 
 pub fault_as : {A B : Type 0} (fault : ExpandFault) (r : Result A ExpandFault) (s : Result B ExpandFault) → (r ≡ Err fault → s ≡ Err fault) → IsFaultOf fault r → IsFaultOf fault s
 fault_as fault r s h (inl m) = inl m
@@ -38,6 +40,21 @@ pub after_nothing : (a : Answer) → after [] a ≡ a
 after_nothing (Ok r) = refl
 after_nothing (Err e) = refl
 
+-- a token that is put out without its hide set
+put_one : (text : List Token) (k : Marked) (a : Answer) → with_put (text ++ k.token ∷ []) (after [] a) ≡ with_put text (after (k ∷ []) a)
+put_one text k (Ok r) = ap Ok (append_assoc text (k.token ∷ []) (map (λ (m : Marked). m.token) r.0))
+put_one text k (Err e) = refl
+
+-- where nothing is put out yet
+pub put_none : (a : Answer) → with_put [] (after [] a) ≡ tokens_of a
+put_none (Ok r) = refl
+put_none (Err e) = refl
+
+-- a fault of the rest is one of the whole text
+pub fault_put : (fault : ExpandFault) (text : List Token) (a : Answer) (r : Result (List Token) ExpandFault) → with_put text a ≡ r → IsFaultOf fault a → IsFaultOf fault r
+fault_put fault text a r s (inl m) = inl m
+fault_put fault text a r s (inr e) = inr (sym s ∙ ap (with_put text) e)
+
 outer_push : (fs : List Frame) (f : Frame) (ls : List (List Marked)) → outer (fs ++ f ∷ []) ls ≡ outer fs (skip f.call ls)
 outer_push [] f ls = refl
 outer_push (g ∷ fs) f ls = ap (skip g.call) (outer_push fs f ls)
@@ -47,6 +64,14 @@ frames_size_push [] f ls = omega arith
 frames_size_push (g ∷ fs) f ls = omega (arith, frames_size_push fs f ls, ap (call_weight g.call) (outer_push fs f ls))
 
 module _ (macros : Macros) (here : Here) where
+  text_on : (answer : Answer) (bound : ℕ) (text : List Token) (n : Machine) → GoesOn macros here answer bound n → TextGoesOn macros here (with_put text answer) bound text n
+  text_on answer bound text n g = record { same = ap (with_put text) g.same; less = g.less; work = g.work }
+
+  -- a step that puts nothing out into the text
+  pub text_step : (answer : Answer) (bound : ℕ) (text : List Token) (n : Machine) (more : Bool) → IsStep macros here answer bound n more → IsTextStep macros here (with_put text answer) bound text n more
+  text_step answer bound text n true g = text_on answer bound text n g
+  text_step answer bound text n false e = ap (with_put text) e ∙ ap (λ l. Ok (text ++ l)) (tokens_same n.out.items)
+
   resume_push : (fs : List Frame) (f : Frame) (ls : List (List Marked)) (a : Answer) → resume macros here (fs ++ f ∷ []) ls a ≡ resume macros here fs (skip f.call ls) (returned macros here f ls a)
   resume_push [] f ls a = refl
   resume_push (g ∷ fs) f ls a = ap (λ o. returned macros here g o (resume macros here (fs ++ f ∷ []) ls a)) (outer_push fs f ls) ∙ ap (returned macros here g (outer fs (skip f.call ls))) (resume_push fs f ls a)
@@ -74,9 +99,17 @@ module _ (macros : Macros) (here : Here) where
     on_end f e = by_head Finished e ∙ ap (λ fs. resume macros here fs (other_lists old) (Ok (map marked m.out.items ++ [], m.work))) f ∙ ap (λ l. Ok (l, m.work)) (append-nil (map marked m.out.items))
 
     module _ (n : Machine) (new : List (List Marked)) (is_new : lists n.slots ≡ new) (w : n.work ≡ m.work) where
-      pub on_stays : (k : Hidden) → head_of macros here (first_list old) ≡ Stays (marked k) (first_list new) → other_lists new ≡ other_lists old → n.out.items ≡ m.out.items ++ k ∷ [] → n.frames.items ≡ m.frames.items → m.work ≤ limit → GoesOn macros here (meaning macros here m) (size m) n
+      stays_less : (k : Marked) → head_of macros here (first_list old) ≡ Stays k (first_list new) → other_lists new ≡ other_lists old → n.frames.items ≡ m.frames.items → size n < size m
+      stays_less k e o f =
+          let s : length (first_list new) < length (first_list old) = sized_by (Stays k (first_list new)) e in
+          let size_n : size n ≡ length (first_list new) + frames_size m.frames.items (other_lists old) + (limit - m.work) =
+          ap (λ ls. length (first_list ls) + frames_size n.frames.items (other_lists ls) + (limit - n.work)) is_new
+          ∙ ap (λ x. length (first_list new) + frames_size n.frames.items x + (limit - n.work)) o ∙ ap (λ x. length (first_list new) + frames_size x (other_lists old) + (limit - n.work)) f
+          ∙ ap (λ x. length (first_list new) + frames_size m.frames.items (other_lists old) + (limit - x)) w in
+          omega (arith, s, size_n, size_is)
+
+      on_stays : (k : Hidden) → head_of macros here (first_list old) ≡ Stays (marked k) (first_list new) → other_lists new ≡ other_lists old → n.out.items ≡ m.out.items ++ k ∷ [] → n.frames.items ≡ m.frames.items → m.work ≤ limit → GoesOn macros here (meaning macros here m) (size m) n
       on_stays k e o p f l =
-          let s : length (first_list new) < length (first_list old) = sized_by (Stays (marked k) (first_list new)) e in
           let there : meaning macros here n ≡ resume macros here m.frames.items (other_lists old) (after (map marked m.out.items ++ marked k ∷ []) (expansion macros here (first_list new) m.work)) =
           ap (λ ls. resume macros here n.frames.items (other_lists ls) (after (map marked n.out.items) (expansion macros here (first_list ls) n.work))) is_new
           ∙ ap (λ x. resume macros here n.frames.items x (after (map marked n.out.items) (expansion macros here (first_list new) n.work))) o
@@ -84,11 +117,23 @@ module _ (macros : Macros) (here : Here) where
           ∙ ap (λ x. resume macros here m.frames.items (other_lists old) (after x (expansion macros here (first_list new) n.work))) (ap (map marked) p ∙ map_push marked m.out.items k)
           ∙ ap (λ x. resume macros here m.frames.items (other_lists old) (after (map marked m.out.items ++ marked k ∷ []) (expansion macros here (first_list new) x))) w in
           let here_is = by_head (Stays (marked k) (first_list new)) e ∙ ap (resume macros here m.frames.items (other_lists old)) (after_after (map marked m.out.items) (marked k ∷ []) (expansion macros here (first_list new) m.work)) in
-          let size_n : size n ≡ length (first_list new) + frames_size m.frames.items (other_lists old) + (limit - m.work) =
-          ap (λ ls. length (first_list ls) + frames_size n.frames.items (other_lists ls) + (limit - n.work)) is_new
-          ∙ ap (λ x. length (first_list new) + frames_size n.frames.items x + (limit - n.work)) o ∙ ap (λ x. length (first_list new) + frames_size x (other_lists old) + (limit - n.work)) f
-          ∙ ap (λ x. length (first_list new) + frames_size m.frames.items (other_lists old) + (limit - x)) w in
-          record { same = there ∙ sym here_is; less = omega (arith, s, size_n, size_is); work = subst (λ x. x ≤ limit) (sym w) l }
+          record { same = there ∙ sym here_is; less = stays_less (marked k) e o f; work = subst (λ x. x ≤ limit) (sym w) l }
+
+      -- the same where it goes out into the text
+      on_text : (text : List Token) (k : Hidden) → head_of macros here (first_list old) ≡ Stays (marked k) (first_list new) → other_lists new ≡ other_lists old → n.out.items ≡ m.out.items → n.frames.items ≡ m.frames.items → m.out.items ≡ [] → m.frames.items ≡ [] → m.work ≤ limit
+          → TextGoesOn macros here (with_put text (meaning macros here m)) (size m) (text ++ k.token ∷ []) n
+      on_text text k e o p f q g l =
+          let there : meaning macros here n ≡ after [] (expansion macros here (first_list new) m.work) =
+          ap (λ ls. resume macros here n.frames.items (other_lists ls) (after (map marked n.out.items) (expansion macros here (first_list ls) n.work))) is_new
+          ∙ ap (λ x. resume macros here x (other_lists new) (after (map marked n.out.items) (expansion macros here (first_list new) n.work))) (f ∙ g)
+          ∙ ap (λ x. after (map marked x) (expansion macros here (first_list new) n.work)) (p ∙ q)
+          ∙ ap (λ x. after [] (expansion macros here (first_list new) x)) w in
+          let here_is : meaning macros here m ≡ after (marked k ∷ []) (expansion macros here (first_list new) m.work) =
+          by_head (Stays (marked k) (first_list new)) e
+          ∙ ap (λ x. resume macros here x (other_lists old) (after (map marked m.out.items) (after (marked k ∷ []) (expansion macros here (first_list new) m.work)))) g
+          ∙ ap (λ x. after (map marked x) (after (marked k ∷ []) (expansion macros here (first_list new) m.work))) q
+          ∙ after_nothing (after (marked k ∷ []) (expansion macros here (first_list new) m.work)) in
+          record { same = ap (with_put (text ++ k.token ∷ [])) there ∙ put_one text (marked k) (expansion macros here (first_list new) m.work) ∙ ap (with_put text) (sym here_is); less = stays_less (marked k) e o f; work = subst (λ x. x ≤ limit) (sym w) l }
 
       pub on_replaced : (r : Replacing) → head_of macros here (first_list old) ≡ Replaced (call_of r new) → skip r new ≡ other_lists old → n.out.items ≡ m.out.items → n.frames.items ≡ m.frames.items → (replacing macros here n r [] ≡ meaning macros here m) × (replacing_size n r < size m)
       on_replaced r e o p f =
@@ -126,6 +171,19 @@ module _ (macros : Macros) (here : Here) where
           let size_m : size m ≡ length (first_list old) + (frames_size fs (skip f.call (other_lists old)) + suc (call_weight f.call (other_lists old))) + (limit - m.work) =
           size_is ∙ ap (λ x. length (first_list old) + frames_size x (other_lists old) + (limit - m.work)) k ∙ ap (λ x. length (first_list old) + x + (limit - m.work)) (frames_size_push fs f (other_lists old)) in
           (there ∙ sym here_is, omega (arith, size_n, size_m))
+
+    -- a token that stays goes out
+    pub on_put : (b n : Machine) (new : List (List Marked)) → lists b.slots ≡ new → b.work ≡ m.work → b.out ≡ m.out → b.frames ≡ m.frames → (text more : List Token) (k : Hidden) →
+        head_of macros here (first_list old) ≡ Stays (marked k) (first_list new) → other_lists new ≡ other_lists old → m.work ≤ limit → IsPut b text k n more →
+        TextGoesOn macros here (with_put text (meaning macros here m)) (size m) more n
+    on_put b n new s w p f text more k e o l (inl g) =
+        subst (λ t. TextGoesOn macros here (with_put text (meaning macros here m)) (size m) t n) (sym g.put)
+        (subst (λ x. TextGoesOn macros here (with_put text (meaning macros here m)) (size m) (text ++ k.token ∷ []) x) (sym g.same)
+        (on_text b new s w text k e o (ap (λ v. v.items) p) (ap (λ v. v.items) f) (ap (λ v. v.items) (sym p) ∙ g.out) (ap (λ v. v.items) (sym f) ∙ g.frames) l))
+    on_put b n new s w p f text more k e o l (inr g) =
+        subst (λ t. TextGoesOn macros here (with_put text (meaning macros here m)) (size m) t n) (sym g.same)
+        (text_on (meaning macros here m) (size m) text n
+        (on_stays n new (ap lists g.slots ∙ s) (g.work ∙ w) k e o (g.put ∙ ap (λ v. v.items ++ k ∷ []) p) (ap (λ v. v.items) (g.frames ∙ f)) l))
 
   -- Arguments.
 

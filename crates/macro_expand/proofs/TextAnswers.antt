@@ -13,7 +13,7 @@ use Rattle.macro_expand.specs.States.{marked}
 use Rattle.macro_expand.specs.Machine.{AnswersList}
 use Rattle.macro_expand.specs.Answering.{IsAnswer}
 
-tokens_same : (list : List Hidden) → map (λ (m : Marked). m.token) (map marked list) ≡ map (λ (h : Hidden). h.token) list
+pub tokens_same : (list : List Hidden) → map (λ (m : Marked). m.token) (map marked list) ≡ map (λ (h : Hidden). h.token) list
 tokens_same [] = refl
 tokens_same (h ∷ hs) = ap (λ l. h.token ∷ l) (tokens_same hs)
 
@@ -47,3 +47,11 @@ module _ (Lists : List Marked → ℕ → Answer → Type 0) (go : List Marked �
   pub exact_err : (fault : ExpandFault) → (fault ≡ NoMemory) ⊎ (go (first_list ls) 0 ≡ Err fault) → IsAnswer (Whole Lists tokens) (Err fault)
   exact_err fault (inl m) = no_memory (Whole Lists tokens) fault m
   exact_err fault (inr e) = answer_is (Whole Lists tokens) fault (scanned (Err fault) e)
+
+  -- The same where the code answers tokens.
+  pub exact_tokens : (all : List Token) → tokens_of (go (first_list ls) 0) ≡ Ok all → Whole Lists tokens (Ok all)
+  exact_tokens all e = subst (λ r. Whole Lists tokens r) e (scanned (go (first_list ls) 0) refl)
+
+  pub exact_fault : (fault : ExpandFault) → (fault ≡ NoMemory) ⊎ (tokens_of (go (first_list ls) 0) ≡ Err fault) → IsAnswer (Whole Lists tokens) (Err fault)
+  exact_fault fault (inl m) = no_memory (Whole Lists tokens) fault m
+  exact_fault fault (inr e) = answer_is (Whole Lists tokens) fault (subst (λ r. Whole Lists tokens r) e (scanned (go (first_list ls) 0) refl))

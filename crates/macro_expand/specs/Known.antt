@@ -1,5 +1,5 @@
 -- The definitions that were read from the texts of a table.
-use Rattle.std.specs.Prelude.{ℕ, ◌≡◌, List, Option, Some, None}
+use Rattle.std.specs.Prelude.{ℕ, ◌≡◌, true, false, List, Option, Some, None}
 use Rattle.std.specs.Option.{option_map}
 use Rattle.std.specs.List.{AllByRecursion}
 use Rattle.std.specs.Prelude.{Vec}
@@ -7,9 +7,10 @@ use Rattle.std.specs.declared.rc.Rc.{Rc}
 use Rattle.macro_table.specs.Definitions.{DefValue}
 use Rattle.macro_table.specs.Tables.{TableOf}
 use Rattle.macro_expand.specs.declared.known.Known.{Known}
+use Rattle.macro_expand.specs.declared.hide.HideSet.{HideSet}
 use Rattle.macro_expand.specs.declared.made.Made.{Made}
 use Rattle.macro_expand.specs.declared.recent.Recent.{Recent}
-use Rattle.macro_expand.specs.Marked.{with_name}
+use Rattle.macro_expand.specs.Marked.{Names, with_name}
 use Rattle.macro_expand.specs.Macros.{macros_of}
 use Rattle.macro_expand.specs.States.{name_text, hidden_names}
 
@@ -33,6 +34,11 @@ IsMeaning (Some known) name said = (said ≡ Some (known_def known)) × (name_te
 -- the set that was made has the names of the set that it was made of, and one name more; whether that set had it is known
 abbrev pub IsMade : Made → Type 0
 IsMade made = (hidden_names made.with ≡ with_name (name_text made.name) (hidden_names made.from)) × (made.had ≡ hidden_names made.from (name_text made.name))
+
+-- the set has the name already, or this is the set with the name more
+abbrev pub IsMore : Option HideSet → List ℕ → Names → Type 0
+IsMore None name names = names name ≡ true
+IsMore (Some more) name names = (names name ≡ false) × (hidden_names more ≡ with_name name names)
 
 -- what is remembered is what the table says
 abbrev pub AreKnown : {A : Type 0} → TableOf ℕ → List (Vec ℕ A × Known) → Type 0

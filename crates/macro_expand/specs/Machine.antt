@@ -1,6 +1,7 @@
 -- What the machine stands for.
 use Rattle.std.specs.Prelude.{ℕ, ◌+◌, ◌-◌, ◌≡◌, ◌<◌, ◌≤◌, ◌⊎◌, zero, suc, Bool, true, false, List, [], ◌∷◌, ◌++◌, map, length, Vec, Result, Ok, Err}
 use Rattle.mac_base.specs.Input.{◌>>=◌}
+use Rattle.pp_tokens.specs.declared.token.Token.{Token}
 use Rattle.macro_expand.specs.declared.here.Here.{Here}
 use Rattle.macro_expand.specs.declared.fault.ExpandFault.{ExpandFault}
 use Rattle.macro_expand.specs.declared.fault.ExpandFault.TheVariants.{NoMemory}
@@ -93,6 +94,41 @@ pub record HasEnded (macros : Macros) (here : Here) (before behind : Machine) : 
 abbrev pub IsStep : Macros → Here → Answer → ℕ → Machine → Bool → Type 0
 IsStep macros here answer bound m true = GoesOn macros here answer bound m
 IsStep macros here answer bound m false = answer ≡ Ok (map marked m.out.items, m.work)
+
+-- the tokens of an answer without their hide sets, behind those that were put out already
+abbrev pub with_put : List Token → Answer → Result (List Token) ExpandFault
+with_put text (Ok r) = Ok (text ++ map (λ m. m.token) r.0)
+with_put text (Err fault) = Err fault
+
+-- the token went out into the text, where no call waits and nothing else is put out
+pub record GoesInText (before : Machine) (text : List Token) (k : Hidden) (behind : Machine) (more : List Token) : Type 0 where
+  pub put : more ≡ text ++ k.token ∷ []
+  pub frames : before.frames.items ≡ []
+  pub out : before.out.items ≡ []
+  pub same : behind ≡ before
+
+-- the token went out with its hide set
+pub record GoesInOut (before : Machine) (text : List Token) (k : Hidden) (behind : Machine) (more : List Token) : Type 0 where
+  pub put : behind.out.items ≡ before.out.items ++ k ∷ []
+  pub frames : behind.frames ≡ before.frames
+  pub work : behind.work ≡ before.work
+  pub slots : behind.slots ≡ before.slots
+  pub same : more ≡ text
+
+-- the token went out
+abbrev pub IsPut : Machine → List Token → Hidden → Machine → List Token → Type 0
+IsPut before text k behind more = GoesInText before text k behind more ⊎ GoesInOut before text k behind more
+
+-- the machine went on to one that is below a bound and stands, with the text that was put out, for these tokens
+pub record TextGoesOn (macros : Macros) (here : Here) (answer : Result (List Token) ExpandFault) (bound : ℕ) (text : List Token) (m : Machine) : Type 0 where
+  pub same : with_put text (meaning macros here m) ≡ answer
+  pub less : size m < bound
+  pub work : m.work ≤ limit
+
+-- a step that goes on keeps what the whole text comes to; the last one has it
+abbrev pub IsTextStep : Macros → Here → Result (List Token) ExpandFault → ℕ → List Token → Machine → Bool → Type 0
+IsTextStep macros here answer bound text m true = TextGoesOn macros here answer bound text m
+IsTextStep macros here answer bound text m false = answer ≡ Ok (text ++ map (λ h. h.token) m.out.items)
 
 -- a fault that is answered: want of memory, or the one that is read
 abbrev pub IsFaultOf : {A : Type 0} → ExpandFault → Result A ExpandFault → Type 0

@@ -7,7 +7,7 @@ ghost use Rattle.macro_expand.specs.Answering.{IsAnswer};
 
 use crate::fault::ExpandFault;
 use crate::here::Here;
-use crate::hidden::Hidden;
+use crate::hidden::{Hidden, with_tokens};
 use crate::known::Definitions;
 use crate::machine::run;
 use crate::stack::fresh_list;
@@ -32,10 +32,8 @@ pub fn has_lone_quote(tokens: &[Token]) -> bool
 pub fn without_hides(alloc: Global, tokens: Vec<Hidden>) -> Result<Tokens, AllocError>
     ensures { IfOk result (λ all. all ≡ map (λ h. h.token) tokens.items) }
 {
-    let mut all = Vec::with_capacity(alloc, tokens.len())?;
-    for hidden in tokens {
-        all.push(hidden.token)?;
-    }
+    let none = Vec::with_capacity(alloc, tokens.len())?;
+    let all = with_tokens(none, tokens)?;
     Ok(Tokens::from_vec(all))
 }
 
@@ -54,6 +52,5 @@ pub fn expand(
     let slots = fresh_list(alloc, tokens.as_slice())?;
     let mut definitions = Definitions::new(alloc, table);
     let out = run(alloc, here, &mut definitions, slots)?;
-    let all = without_hides(alloc, out)?;
-    Ok(all)
+    Ok(Tokens::from_vec(out))
 }

@@ -6,7 +6,7 @@ ghost use Rattle.macro_expand.specs.Calls.{first_list, other_lists, closed, Clos
 ghost use Rattle.macro_expand.specs.Heads.{in_file, instead, head_of, seen_head as seen_head_of, macro_head as macro_head_of, call_head as call_head_of};
 ghost use Rattle.macro_expand.specs.States.{marked, hidden_names, name_text};
 ghost use Rattle.macro_expand.specs.Slots.{lists, first_part};
-ghost use Rattle.macro_expand.specs.Known.{IsMeaning};
+ghost use Rattle.macro_expand.specs.Known.{IsMeaning, IsMore};
 ghost use Rattle.macro_expand.specs.Taking.{IsHead, IsCall, no_named, closes, is_unknown, named_head as named_head_of};
 
 use crate::fault::ExpandFault;
@@ -54,14 +54,32 @@ fn is_unknown(known: &Option<Known>, name: &[u8]) -> bool
     known.is_none() && name != b"__LINE__".as_slice() && name != b"__FILE__".as_slice()
 }
 
-/// Whether the token hides its name, of which this is known.
-fn is_hidden(definitions: &Definitions, known: &Option<Known>, hidden: &Hidden) -> bool
-    requires { IsMeaning known.now hidden.now.token.text (macros_of definitions.now hidden.now.token.text) }
-    ensures { result ≡ hidden_names hidden.now.hides hidden.now.token.text }
+/// The set with the name more, unless it has the name already.
+#[inline(never)]
+fn with_name_once(alloc: Global, name: &[u8], set: &HideSet) -> Result<Option<HideSet>, AllocError>
+    ensures { IfOk result (λ more. IsMore more name.now (hidden_names set.now)) }
+{
+    if hides(set, name) {
+        return Ok(None);
+    }
+    let more = with_name(alloc, name, set)?;
+    Ok(Some(more))
+}
+
+/// The hide set of the token with its own name more, of which this is known. None where it has the name already.
+fn hide_own_name(
+    alloc: Global,
+    definitions: &mut Definitions,
+    known: &Option<Known>,
+    hidden: &Hidden,
+) -> Result<Option<HideSet>, AllocError>
+    requires { IsMeaning known.now hidden.now.token.text (macros_of definitions.old hidden.now.token.text) }
+    ensures set { IfOk result (λ more. IsMore more hidden.now.token.text (hidden_names hidden.now.hides)) }
+    ensures kept { definitions.new ≡ definitions.old }
 {
     match known {
-        None => hides(&hidden.hides, hidden.token.text.as_slice()),
-        Some(known) => definitions.hides_name(known.number, &known.name, &hidden.hides),
+        None => with_name_once(alloc, hidden.token.text.as_slice(), &hidden.hides),
+        Some(known) => definitions.hide_once(alloc, known.number, &known.name, &hidden.hides),
     }
 }
 
@@ -105,20 +123,18 @@ fn file_text(alloc: Global, file: &[u8]) -> Result<Bytes, AllocError>
 }
 
 /// A token of this kind and text in the place of a name, whose own replacement it hides.
-fn put_instead(alloc: Global, kind: Kind, text: Bytes, hidden: Hidden) -> Result<Hidden, AllocError>
-    ensures { IfOk result (λ h. marked h ≡ instead kind text (marked hidden)) }
+fn put_instead(kind: Kind, text: Bytes, hidden: &Hidden, hides: HideSet) -> Hidden
+    requires { hidden_names hides ≡ with_name_of hidden.now.token.text (hidden_names hidden.now.hides) }
+    ensures { marked result ≡ instead kind text (marked hidden.now) }
 {
-    let Hidden { token, hides } = hidden;
-    let name = Name::new(alloc, token.text)?;
-    let hides = with_name(alloc, &name, &hides)?;
-    Ok(Hidden {
+    Hidden {
         token: Token {
             kind,
             text,
-            space: token.space,
+            space: hidden.token.space,
         },
         hides,
-    })
+    }
 }
 
 /// Takes the head of the first list.
@@ -155,34 +171,39 @@ fn named_head(
 {
     let name = hidden.token.text.as_slice();
     let known = definitions.look_up(alloc, name)?;
-    if is_unknown(&known, name) || is_hidden(definitions, &known, &hidden) {
+    if is_unknown(&known, name) {
         return Ok(NextHead::Stays(hidden));
     }
-    let head = seen_head(alloc, here, definitions, known, hidden, slots)?;
+    let Some(hides) = hide_own_name(alloc, definitions, &known, &hidden)? else {
+        return Ok(NextHead::Stays(hidden));
+    };
+    let head = seen_head(alloc, here, definitions, known, hidden, hides, slots)?;
     Ok(head)
 }
 
-/// The head of a list that begins with a name that its token does not hide.
+/// The head of a list that begins with a name that its token does not hide. `hides` is what the token hides, and the name.
 fn seen_head(
     alloc: Global,
     here: &Here,
     definitions: &mut Definitions,
     known: Option<Known>,
     hidden: Hidden,
+    hides: HideSet,
     slots: &mut Stack,
 ) -> Result<NextHead, ExpandFault>
-    requires { IsMeaning known hidden.token.text (macros_of definitions.old hidden.token.text) }
+    requires known { IsMeaning known hidden.token.text (macros_of definitions.old hidden.token.text) }
+    requires hides { hidden_names hides ≡ with_name_of hidden.token.text (hidden_names hidden.hides) }
     ensures head { IsHead result (lists slots.old) (lists slots.new) (seen_head_of (macros_of definitions.old) here.now (marked hidden) (first_list (lists slots.old))) }
     ensures kept { definitions.new ≡ definitions.old }
 {
     let name = hidden.token.text.as_slice();
     if name == b"__LINE__".as_slice() {
         let text = line_text(alloc, here.line)?;
-        return Ok(NextHead::Stays(put_instead(alloc, Kind::Number, text, hidden)?));
+        return Ok(NextHead::Stays(put_instead(Kind::Number, text, &hidden, hides)));
     }
     if name == b"__FILE__".as_slice() {
         let text = file_text(alloc, here.file.as_slice())?;
-        return Ok(NextHead::Stays(put_instead(alloc, Kind::Str, text, hidden)?));
+        return Ok(NextHead::Stays(put_instead(Kind::Str, text, &hidden, hides)));
     }
     let Some(known) = known else {
         return Ok(NextHead::Stays(hidden));
@@ -193,7 +214,7 @@ fn seen_head(
             name: hidden.token.text,
         });
     };
-    let head = macro_head(alloc, definitions, number, &name, def, hidden, slots)?;
+    let head = macro_head(alloc, definitions, number, &name, def, hidden, hides, slots)?;
     Ok(head)
 }
 
@@ -205,19 +226,21 @@ fn macro_head(
     name: &Name,
     def: Rc<Def>,
     hidden: Hidden,
+    hides: HideSet,
     slots: &mut Stack,
 ) -> Result<NextHead, ExpandFault>
-    requires { name_text name.now ≡ hidden.token.text }
+    requires name { name_text name.now ≡ hidden.token.text }
+    requires hides { hidden_names hides ≡ with_name_of hidden.token.text (hidden_names hidden.hides) }
     ensures head { IsHead result (lists slots.old) (lists slots.new) (macro_head_of def.value def.value.params (marked hidden) (first_list (lists slots.old))) }
     ensures kept { definitions.new ≡ definitions.old }
 {
     if def.params.is_none() {
-        let hides = definitions.hide_name(alloc, number, name, &hidden.hides)?;
         let next = param_count(&def);
+        let Token { text, space, .. } = hidden.token;
         return Ok(NextHead::Replaced(Replacing {
             def,
-            name: hidden.token.text,
-            space: hidden.token.space,
+            name: text,
+            space,
             hides,
             next,
             count: 0,

@@ -1,5 +1,5 @@
 // Tokens with their hide sets.
-ghost use Rattle.std.specs.Prelude.{◌≡◌, IfOk, if◌then◌else◌};
+ghost use Rattle.std.specs.Prelude.{◌≡◌, ◌++◌, IfOk, if◌then◌else◌, map};
 ghost use Rattle.macro_expand.specs.Marked.{fresh, spaced, hiding};
 ghost use Rattle.macro_expand.specs.States.{marked, hidden_names};
 
@@ -86,4 +86,15 @@ pub fn hide_more(alloc: Global, names: &HideSet, hidden: Hidden) -> Result<Hidde
     let Hidden { token, hides } = hidden;
     let hides = union(alloc, names, &hides)?;
     Ok(Hidden { token, hides })
+}
+
+/// The tokens, and behind them those of a list without their hide sets.
+pub fn with_tokens(tokens: Vec<Token>, list: Vec<Hidden>) -> Result<Vec<Token>, AllocError>
+    ensures { IfOk result (λ all. all.items ≡ tokens.items ++ map (λ h. h.token) list.items) }
+{
+    let mut all = tokens;
+    for hidden in list {
+        all.push(hidden.token)?;
+    }
+    Ok(all)
 }

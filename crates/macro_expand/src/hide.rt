@@ -117,11 +117,11 @@ fn names_of(alloc: Global, set: &HideSet) -> Result<Names, AllocError>
 }
 
 /// The set with a name more.
-pub fn with_name(alloc: Global, name: &Name, set: &HideSet) -> Result<HideSet, AllocError>
-    ensures { IfOk result (λ more. hidden_names more ≡ with_name (name_text name.now) (hidden_names set.now)) }
+pub fn with_name(alloc: Global, name: &[u8], set: &HideSet) -> Result<HideSet, AllocError>
+    ensures { IfOk result (λ more. hidden_names more ≡ with_name name.now (hidden_names set.now)) }
 {
     let names = names_of(alloc, set)?;
-    let all = names.with(name.as_slice())?;
+    let all = names.with(name)?;
     let more = set_of(alloc, all)?;
     Ok(more)
 }

@@ -9,10 +9,10 @@ ghost use Rattle.macro_table.specs.Texts.{def_of_text};
 ghost use Rattle.macro_expand.specs.Marked.{with_name};
 ghost use Rattle.macro_expand.specs.States.{name_text, hidden_names};
 ghost use Rattle.macro_expand.specs.Macros.{macros_of, sound_def};
-ghost use Rattle.macro_expand.specs.Known.{known_def, known_value, def_value, IsMeaning};
+ghost use Rattle.macro_expand.specs.Known.{known_def, known_value, def_value, IsMeaning, IsMore};
 
 use crate::hide::{HideSet, Name};
-use crate::made::{Made, add_name, hide_name, hides_name};
+use crate::made::{Made, add_name, hide_name, hide_once};
 use crate::recent::{Recent, make_places, put_recent, recent_of};
 use mac_base::{Bytes, NoMemory};
 use macro_table::{Def, Table, TextFault, def_of_text};
@@ -173,11 +173,18 @@ impl<'a> Definitions<'a> {
         Ok(Some(same))
     }
 
-    /// Whether the set has the name of this number.
-    pub fn hides_name(&self, number: usize, name: &Name, set: &HideSet) -> bool
-        ensures { result ≡ hidden_names set.now (name_text name.now) }
+    /// The set with the name of this number more, unless it has the name already.
+    pub fn hide_once(
+        &mut self,
+        alloc: Global,
+        number: usize,
+        name: &Name,
+        set: &HideSet,
+    ) -> Result<Option<HideSet>, AllocError>
+        ensures set { IfOk result (λ more. IsMore more (name_text name.now) (hidden_names set.now)) }
+        ensures kept { self.new ≡ self.old }
     {
-        hides_name(self.sets.as_slice(), number, name, set)
+        hide_once(alloc, &mut self.sets, number, name, set)
     }
 
     /// The set with the name of this number more.

@@ -4,16 +4,16 @@ ghost use Rattle.macro_expand.specs.declared.here.Here.{Here as HereValue};
 ghost use Rattle.macro_expand.specs.declared.machine.Machine.{Machine as MachineValue};
 ghost use Rattle.macro_expand.specs.Macros.{Macros, macros_of, params_of};
 ghost use Rattle.macro_expand.specs.Calls.{first_list, other_lists, stands_free as stands_free_of};
-ghost use Rattle.macro_expand.specs.Expansion.{limit, expansion};
+ghost use Rattle.macro_expand.specs.Expansion.{limit, expansion, tokens_of};
 ghost use Rattle.macro_expand.specs.States.{Answers, marked, argument_of};
 ghost use Rattle.macro_expand.specs.Slots.{lists};
-ghost use Rattle.macro_expand.specs.Machine.{meaning, replacing, replacing_size, size, GoesOn, HasEnded, IsStep, IsFaultOf, plain_of, lists_after, wanted_in, AnswersList};
+ghost use Rattle.macro_expand.specs.Machine.{meaning, replacing, replacing_size, size, GoesOn, HasEnded, IsStep, IsFaultOf, plain_of, lists_after, wanted_in, with_put, IsPut, IsTextStep};
 
 use crate::cell::{Arguments, Given};
 use crate::fault::ExpandFault;
 use crate::head::{NextHead, Replacing, take_head};
 use crate::here::Here;
-use crate::hidden::Hidden;
+use crate::hidden::{Hidden, with_tokens};
 use crate::known::Definitions;
 use crate::params::{param_at, param_count, stands_bound, stands_free};
 use crate::stack::{Stack, copy_list, drop_lists, put_back, take_list};
@@ -196,21 +196,34 @@ fn end_list(alloc: Global, machine: &mut Machine) -> Result<bool, ExpandFault>
     Ok(true)
 }
 
-/// One step. It answers whether there are more.
+/// Puts out a token that stays. In the text itself, and in no argument, it goes out without its hide set.
+fn put_out(machine: &mut Machine, text: &mut Vec<Token>, hidden: Hidden) -> Result<(), AllocError>
+    ensures { OnOk result (IsPut machine.old text.old.items hidden machine.new text.new.items) }
+{
+    if machine.frames.is_empty() && machine.out.is_empty() {
+        text.push(hidden.token)?;
+    } else {
+        machine.out.push(hidden)?;
+    }
+    Ok(())
+}
+
+/// One step. It answers whether there are more. What the text comes to so far is put out without hide sets.
 fn step(
     alloc: Global,
     here: &Here,
     definitions: &mut Definitions,
     machine: &mut Machine,
+    text: &mut Vec<Token>,
 ) -> Result<bool, ExpandFault>
     requires work { machine.old.work ≤ limit }
-    ensures ok { IfOk result (IsStep (macros_of definitions.old) here.now (meaning (macros_of definitions.old) here.now machine.old) (size machine.old) machine.new) }
+    ensures ok { IfOk result (IsTextStep (macros_of definitions.old) here.now (with_put text.old.items (meaning (macros_of definitions.old) here.now machine.old)) (size machine.old) text.new.items machine.new) }
     ensures err { IfErr result (λ fault. IsFaultOf fault (meaning (macros_of definitions.old) here.now machine.old)) }
     ensures kept { definitions.new ≡ definitions.old }
 {
     match take_head(alloc, here, definitions, &mut machine.slots)? {
         NextHead::Stays(token) => {
-            machine.out.push(token)?;
+            put_out(machine, text, token)?;
             Ok(true)
         }
         NextHead::Replaced(call) => {
@@ -224,14 +237,14 @@ fn step(
     }
 }
 
-/// What the first list expands to.
+/// The tokens that the first list expands to.
 pub fn run(
     alloc: Global,
     here: &Here,
     definitions: &mut Definitions,
     slots: Stack,
-) -> Result<Vec<Hidden>, ExpandFault>
-    ensures { AnswersList result (expansion (macros_of definitions.old) here.now (first_list (lists slots)) 0) }
+) -> Result<Vec<Token>, ExpandFault>
+    ensures { Answers (λ list. list.items) result (tokens_of (expansion (macros_of definitions.old) here.now (first_list (lists slots)) 0)) }
 {
     let mut machine = Machine {
         slots,
@@ -239,6 +252,8 @@ pub fn run(
         work: 0,
         frames: Vec::new(alloc),
     };
-    while step(alloc, here, definitions, &mut machine)? {}
-    Ok(machine.out)
+    let mut text = Vec::new(alloc);
+    while step(alloc, here, definitions, &mut machine, &mut text)? {}
+    let all = with_tokens(text, machine.out)?;
+    Ok(all)
 }

@@ -2,7 +2,7 @@
 ghost use Rattle.std.specs.Prelude.{◌≡◌, All, IfOk, true};
 ghost use Rattle.macro_expand.specs.Marked.{with_name};
 ghost use Rattle.macro_expand.specs.States.{name_text, hidden_names};
-ghost use Rattle.macro_expand.specs.Known.{IsMade};
+ghost use Rattle.macro_expand.specs.Known.{IsMade, IsMore};
 
 use crate::hide::{HideSet, Name, hides, is_listed_alike, no_hides, same_hides, with_name};
 use std::alloc::{AllocError, Global};
@@ -21,7 +21,7 @@ fn made_of(alloc: Global, name: &Name, set: &HideSet) -> Result<Made, AllocError
     ensures made { IfOk result IsMade }
     ensures with { IfOk result (λ made. hidden_names made.with ≡ with_name (name_text name.now) (hidden_names set.now)) }
 {
-    let with = with_name(alloc, name, set)?;
+    let with = with_name(alloc, name.as_slice(), set)?;
     Ok(Made {
         name: name.same()?,
         from: same_hides(set)?,
@@ -50,20 +50,6 @@ fn serves(made: &Made, name: &Name, set: &HideSet) -> bool
     made.name.as_slice() == name.as_slice() && is_listed_alike(&made.from, set)
 }
 
-/// Whether the set has the name of this number.
-pub fn hides_name(sets: &[Made], number: usize, name: &Name, set: &HideSet) -> bool
-    requires { All IsMade sets.now }
-    ensures { result ≡ hidden_names set.now (name_text name.now) }
-{
-    if number < sets.len() {
-        let last = &sets[number];
-        if serves(last, name, set) {
-            return last.had;
-        }
-    }
-    hides(set, name.as_slice())
-}
-
 /// The set with the name more. It is remembered as the last one that was made for the name of this number.
 pub fn hide_name(
     alloc: Global,
@@ -77,7 +63,7 @@ pub fn hide_name(
     ensures set { IfOk result (λ more. hidden_names more ≡ with_name (name_text name.now) (hidden_names set.now)) }
 {
     if number >= sets.len() {
-        let more = with_name(alloc, name, set)?;
+        let more = with_name(alloc, name.as_slice(), set)?;
         return Ok(more);
     }
     let last = &sets[number];
@@ -89,4 +75,33 @@ pub fn hide_name(
     let same = same_hides(&made.with)?;
     sets[number] = made;
     Ok(same)
+}
+
+/// The set with the name more, unless it has the name already.
+pub fn hide_once(
+    alloc: Global,
+    sets: &mut Vec<Made>,
+    number: usize,
+    name: &Name,
+    set: &HideSet,
+) -> Result<Option<HideSet>, AllocError>
+    requires { All IsMade sets.old.items }
+    ensures made { All IsMade sets.new.items }
+    ensures set { IfOk result (λ more. IsMore more (name_text name.now) (hidden_names set.now)) }
+{
+    if number < sets.len() {
+        let last = &sets[number];
+        if serves(last, name, set) {
+            if last.had {
+                return Ok(None);
+            }
+            let same = same_hides(&last.with)?;
+            return Ok(Some(same));
+        }
+    }
+    if hides(set, name.as_slice()) {
+        return Ok(None);
+    }
+    let more = hide_name(alloc, sets, number, name, set)?;
+    Ok(Some(more))
 }

@@ -1,15 +1,15 @@
-use Rattle.std.proofs.Common.{◌≡◌, ◌∙◌, ◌∷◌, [], sym, ap, map, subst, false, Ok, Err}
+use Rattle.std.proofs.Common.{◌≡◌, ◌∙◌, ◌∷◌, [], sym, ap, map, subst, false, Ok}
 use Rattle.std.proofs.lemmas.Result.{err_from_is_err_and}
 use Rattle.macro_expand.specs.declared.here.Here.{Here}
 use Rattle.macro_expand.specs.Marked.{fresh}
 use Rattle.macro_expand.specs.Macros.{Macros, macros_of}
 use Rattle.macro_expand.specs.Calls.{first_list}
-use Rattle.macro_expand.specs.Expansion.{has_lone_quote, expansion}
+use Rattle.macro_expand.specs.Expansion.{has_lone_quote, expansion, tokens_of}
 use Rattle.macro_expand.specs.Rules.{Lone, Expands}
 use Rattle.macro_expand.specs.Slots.{lists}
-use Rattle.macro_expand.specs.Machine.{AnswersList}
+use Rattle.macro_expand.specs.Machine.{IsFaultOf}
 use Rattle.macro_expand.proofs.OneAnswer.{complete}
-use Rattle.macro_expand.proofs.TextAnswers.{exact_ok, exact_err}
+use Rattle.macro_expand.proofs.TextAnswers.{exact_tokens, exact_fault}
 use Rattle.macro_expand.proofs.expansion.expand.Goals as goal
 
 pub returns-then-has_lone_quote : goal.returns-then-has_lone_quote
@@ -23,8 +23,8 @@ returns-in_err-out c =
     let slots = c.in_ok-slots.ensures ∙ ap (λ ts. map fresh ts ∷ []) c.as_slice-2.ensures in
     let lone : has_lone_quote c.args.tokens.now ≡ false = ap has_lone_quote (sym c.as_slice.ensures) ∙ sym c.has_lone_quote.ensures ∙ c.if-has_lone_quote.false in
     rw (p.1, p.2) (record {
-      exact = exact_err (Expands M H) (expansion M H) (complete M H) c.args.tokens.now (lists c.in_ok-slots.slots) lone slots c.in_err-out.field-0.0
-          (subst (λ t. AnswersList (Err c.in_err-out.field-0.0) (expansion (macros_of t) H (first_list (lists c.in_ok-slots.slots)) 0)) c.new-definitions.ensures c.in_err-out.ensures);
+      exact = exact_fault (Expands M H) (expansion M H) (complete M H) c.args.tokens.now (lists c.in_ok-slots.slots) lone slots c.in_err-out.field-0.0
+          (subst (λ t. IsFaultOf c.in_err-out.field-0.0 (tokens_of (expansion (macros_of t) H (first_list (lists c.in_ok-slots.slots)) 0))) c.new-definitions.ensures c.in_err-out.ensures);
     })
 
 pub returns : goal.returns
@@ -34,6 +34,6 @@ returns c =
     let slots = c.in_ok-slots.ensures ∙ ap (λ ts. map fresh ts ∷ []) c.as_slice-2.ensures in
     let lone : has_lone_quote c.args.tokens.now ≡ false = ap has_lone_quote (sym c.as_slice.ensures) ∙ sym c.has_lone_quote.ensures ∙ c.if-has_lone_quote.false in
     record {
-      exact = exact_ok (Expands M H) (expansion M H) (complete M H) c.args.tokens.now (lists c.in_ok-slots.slots) lone slots c.in_ok-out.out c.in_ok-all.all
-          (subst (λ t. AnswersList (Ok c.in_ok-out.out) (expansion (macros_of t) H (first_list (lists c.in_ok-slots.slots)) 0)) c.new-definitions.ensures c.in_ok-out.ensures) c.in_ok-all.ensures;
+      exact = exact_tokens (Expands M H) (expansion M H) (complete M H) c.args.tokens.now (lists c.in_ok-slots.slots) lone slots c.from_vec.result
+          (subst (λ t. tokens_of (expansion (macros_of t) H (first_list (lists c.in_ok-slots.slots)) 0) ≡ Ok c.in_ok-out.out.items) c.new-definitions.ensures c.in_ok-out.ensures ∙ ap Ok (sym c.from_vec.ensures));
     }
