@@ -57,7 +57,7 @@ abbrev pub IsPlain : {A : Type 0} → Result A PpKind → Type 0
 IsPlain (Ok x) = Unit {0}
 IsPlain (Err kind) = kind ≡ StoreFault → ⊥
 
-plain_stop : {A : Type 0} (n : ℕ) (r : Result A PpKind) (stop : Stop) → ◌≡◌ {A = Result A Stop} (Err stop) (stopped n r) → IsPlain r → StopFailed {A = Seen} (Err stop) → ⊥
+pub plain_stop : {A : Type 0} (n : ℕ) (r : Result A PpKind) (stop : Stop) → ◌≡◌ {A = Result A Stop} (Err stop) (stopped n r) → IsPlain r → StopFailed {A = Seen} (Err stop) → ⊥
 plain_stop n (Ok x) stop is plain h = cc
 plain_stop n (Err kind) stop is plain h = let same : stop ≡ Here n kind = cc in plain (subst (λ (s : Stop). StopFailed {A = Seen} (Err s)) same h)
 

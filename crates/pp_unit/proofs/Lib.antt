@@ -15,6 +15,7 @@ pub mod LineLemmas
 pub mod CauseLemmas
 pub mod FileLemmas
 pub mod EnterLemmas
+pub mod PassLemmas
 pub mod StepLemmas
 pub mod WalkLemmas
 pub mod HeaderLemmas

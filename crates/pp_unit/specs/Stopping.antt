@@ -1,5 +1,5 @@
 -- How the code hands on the fault with which a file stops, and what a call answers that began with marks.
-use Rattle.std.specs.Prelude.{◌≡◌, ◌⊎◌, ℕ, ◌+◌, Bool, true, false, List, ◌∷◌, length, Result, Ok, Err}
+use Rattle.std.specs.Prelude.{◌≡◌, ◌⊎◌, ℕ, ◌+◌, Bool, true, false, not, List, ◌∷◌, length, Option, Some, None, Result, Ok, Err}
 use Rattle.pp_tokens.specs.Cut.{LexesFile}
 use Rattle.pp_tokens.specs.Laws.{IsAnswer}
 use Rattle.pp_tokens.specs.declared.line.Line.{Line}
@@ -7,7 +7,8 @@ use Rattle.pp_tokens.specs.declared.fault.LexFault.{LexFault}
 use Rattle.pp_directives.specs.declared.directive.Directive.{Directive}
 use Rattle.pp_directives.specs.declared.fault.StructFault.{StructFault}
 use Rattle.pp_directives.specs.Groups.{CondLine, line, role_of}
-use Rattle.pp_directives.specs.Conditions.{is_due, turned}
+use Rattle.pp_directives.specs.Conditions.{is_active, is_due, turned}
+use Rattle.pp_directives.specs.Reached.{is_other}
 use Rattle.pp_directives.specs.Following.{Ways}
 use Rattle.pp_directives.specs.Running.{Runs}
 use Rattle.pp_directives.specs.Directives.{directive_of}
@@ -15,7 +16,7 @@ use Rattle.mac_io.specs.declared.headers.FileId.{FileId}
 use Rattle.mac_io.specs.declared.headers.Located.{Located}
 use Rattle.mac_io.specs.declared.headers.Located.TheVariants.{Found, Absent, TooLong, Failed}
 use Rattle.mac_io.specs.declared.headers.Located.TheVariants.{NoMemory as SearchRanOut}
-use Rattle.pp_directives.specs.declared.directive.Directive.TheVariants.{Include}
+use Rattle.pp_directives.specs.declared.directive.Directive.TheVariants.{Include, Text}
 use Rattle.pp_directives.specs.declared.open.Open.{Open}
 use Rattle.pp_unit.specs.declared.within.Within.{Within}
 use Rattle.pp_unit.specs.declared.stop.Stop.{Stop}
@@ -26,7 +27,7 @@ use Rattle.pp_unit.specs.declared.fault.PpKind.TheVariants.{Lex, Struct, NoSuchF
 use Rattle.pp_unit.specs.Kinds.{fault_at, ran_out}
 use Rattle.pp_unit.specs.Seen.{Seen, Mark, Marked}
 use Rattle.pp_unit.specs.Questions.{AnswersBy}
-use Rattle.pp_unit.specs.Files.{fault_line}
+use Rattle.pp_unit.specs.Files.{Stores, Walks, ways, fault_line}
 use Rattle.pp_unit.specs.Walk.{open_limit}
 
 -- an answer, with a fault in this line
@@ -80,11 +81,19 @@ LineRuns rules within old here m (Err stop) new =
 abbrev pub HasLeft : ℕ → Within → Type 0
 HasLeft left within = left + length within.frames ≡ open_limit
 
+-- a stop since a store failed
+abbrev pub IsStoreStop : Stop → Type 0
+IsStoreStop (Here line kind) = kind ≡ StoreFault
+IsStoreStop (Inside fault) = fault.what ≡ StoreFault
+
+-- a stop for another reason
+abbrev pub IsOwnStop : Stop → Type 0
+IsOwnStop stop = IsStoreStop stop → ⊥
+
 -- a file stops since a store failed
 abbrev pub StopFailed : {A : Type 0} → Result A Stop → Type 0
 StopFailed (Ok x) = ⊥
-StopFailed (Err (Here line kind)) = kind ≡ StoreFault
-StopFailed (Err (Inside fault)) = fault.what ≡ StoreFault
+StopFailed (Err stop) = IsStoreStop stop
 
 -- the walk of a file ends since a store failed
 abbrev pub FileFailed : {A : Type 0} → Result A PpFault → Type 0
@@ -117,6 +126,29 @@ Turned within here seen directive old new (Err kind) =
 abbrev pub is_include : Directive → Bool
 is_include Include = true
 is_include _ = false
+
+-- plain text
+abbrev pub is_text : Directive → Bool
+is_text Text = true
+is_text _ = false
+
+-- a line leaves what was recorded as it is, or stops, over any stores
+abbrev pub KeepsRecord : Within → List Open → Line → Seen → Result Seen Stop → List Open → Type 0
+KeepsRecord within old here seen result new =
+    (stores : Stores) (left : ℕ) (marks : List Mark) → HasLeft left within → LineRuns (ways stores left (Walks stores left) within) within old here (with_marks seen marks) result new
+
+-- a line of a taken group that is no conditional directive, and has turned nothing
+pub record IsActing (old : List Open) (here : Line) (directive : Directive) (new : List Open) : Type 0 where
+  pub known : directive ≡ directive_of here.tokens
+  pub other : not (is_other (role_of directive)) ≡ false
+  pub active : is_active old ≡ true
+  pub same : new ≡ old
+
+-- Acting within old here seen result new: the line leaves what was recorded as it is, or is to be followed further by its directive
+abbrev pub Acting : Within → List Open → Line → Seen → Result (Option Directive) Stop → List Open → Type 0
+Acting within old here seen (Ok None) new = KeepsRecord within old here seen (Ok seen) new
+Acting within old here seen (Ok (Some directive)) new = IsActing old here directive new
+Acting within old here seen (Err stop) new = KeepsRecord within old here seen (Err stop) new
 
 -- the file that a search found, or the kind of fault with which there is none
 abbrev pub IsFoundIn : Located → List ℕ → Result FileId PpKind → Type 0

@@ -59,6 +59,7 @@ pub fn copied(alloc: Global, tokens: &[Token]) -> Result<Tokens, NoMemory>
 }
 
 /// A line of a taken group that is neither an inclusion nor a conditional directive.
+#[inline(never)]
 pub fn follow_directive(
     so_far: Record,
     within: &Within,

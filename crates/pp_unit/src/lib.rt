@@ -11,6 +11,7 @@ mod lexed_files;
 mod line_number;
 mod once_files;
 mod open;
+mod passing;
 mod path_numbers;
 mod question;
 mod record;

@@ -9,7 +9,7 @@ ghost use Rattle.pp_unit.specs.Questions.{operands, here_of, AnswersBy};
 ghost use Rattle.pp_unit.specs.HeaderNames.{NamesHeader};
 ghost use Rattle.pp_unit.specs.Files.{inside, last_number};
 ghost use Rattle.pp_unit.specs.Recorded.{ComesTo};
-ghost use Rattle.pp_unit.specs.Stopping.{Given, Turned, is_include, IsFoundIn};
+ghost use Rattle.pp_unit.specs.Stopping.{Given, Turned, is_include, is_text, IsFoundIn};
 
 use crate::direct::copied;
 use crate::fault::PpKind;
@@ -94,6 +94,7 @@ fn answer_to(
 }
 
 /// Follows a conditional directive.
+#[inline(never)]
 pub fn turn(
     so_far: &Record,
     within: &Within,
@@ -121,6 +122,13 @@ pub fn is_conditional(directive: &Directive) -> bool
             | Directive::Else
             | Directive::Endif
     )
+}
+
+/// Whether a line is plain text.
+pub fn is_text(directive: &Directive) -> bool
+    ensures { result ≡ is_text directive.now }
+{
+    matches!(directive, Directive::Text)
 }
 
 /// Whether a line is an inclusion.

@@ -1,6 +1,11 @@
-ghost use Rattle.std.specs.Prelude.{◌≡◌, ◌+◌, ◌<◌, ◌≤◌, ℕ, suc, List, [], length};
+ghost use Rattle.std.specs.Prelude.{◌≡◌, ◌+◌, ◌<◌, ◌≤◌, ℕ, suc, true, false, not, List, [], length};
 ghost use Rattle.mac_io.specs.Causes.{HasCause};
 ghost use Rattle.mac_io.specs.Search.{OnFound};
+ghost use Rattle.pp_directives.specs.declared.open.Open.{Open};
+ghost use Rattle.pp_directives.specs.Conditions.{is_active};
+ghost use Rattle.pp_directives.specs.Directives.{directive_of};
+ghost use Rattle.pp_directives.specs.Groups.{role_of};
+ghost use Rattle.pp_directives.specs.Reached.{is_other};
 ghost use Rattle.pp_directives.specs.Running.{Runs};
 ghost use Rattle.pp_unit.specs.Seen.{Mark};
 ghost use Rattle.pp_unit.specs.Files.{ways, with_roles, Enters, IncludesFound, DoesInclude, Walks};
@@ -9,15 +14,14 @@ ghost use Rattle.pp_unit.specs.Stopping.{FileComesTo, StopComesTo, LineRuns, Has
 use crate::direct::follow_directive;
 use crate::fault::{PpFault, PpKind};
 use crate::header::HeaderName;
-use crate::open::{
-    found_in, header_of, included, is_conditional, is_include, kind_of, last_number, turn,
-};
+use crate::open::{found_in, header_of, included, is_include, last_number};
+use crate::passing::acting;
 use crate::record::Record;
 use crate::stop::{Stop, in_line};
 use crate::within::Within;
 use mac_base::Bytes;
 use mac_io::{FileId, Headers, Located};
-use pp_directives::{Conditions, StructFault};
+use pp_directives::{Conditions, Directive, StructFault};
 use pp_tokens::Line;
 
 /// The most files that are open at once.
@@ -69,7 +73,11 @@ fn follow_lines<P: Headers>(
     let mut so_far = so_far;
     let mut pending = Conditions::new(so_far.alloc());
     for line in lines {
-        so_far = follow_line(path, so_far, within, &mut pending, line)?;
+        let acts = acting(&so_far, within, &mut pending, line)?;
+        let Some(directive) = acts else {
+            continue;
+        };
+        so_far = follow_line(path, so_far, within, line, &directive)?;
     }
     match pending.open_line() {
         None => Ok(so_far),
@@ -80,43 +88,35 @@ fn follow_lines<P: Headers>(
     }
 }
 
-/// Follows a line.
+/// Follows a line of a taken group that is no conditional directive.
 #[cycle(walk)]
 fn follow_line<P: Headers>(
     path: &mut P,
     so_far: Record,
     within: &Within,
-    pending: &mut Conditions,
     line: &Line,
+    directive: &Directive,
 ) -> Result<Record, Stop>
     requires store { within.now.id.store < length (P.stores path.old) }
     requires room { length within.now.frames ≤ 200 }
-    ensures step { (left : ℕ) (marks : List Mark) → HasLeft left within.now → LineRuns (ways (P.stores path.old) left (Walks (P.stores path.old) left) within.now) within.now pending.old line.now (with_marks so_far marks) result pending.new }
+    requires known { directive.now ≡ directive_of line.now.tokens }
+    requires other { not (is_other (role_of directive.now)) ≡ false }
+    ensures step { (pending : List Open) → is_active pending ≡ true → (left : ℕ) (marks : List Mark) → HasLeft left within.now → LineRuns (ways (P.stores path.old) left (Walks (P.stores path.old) left) within.now) within.now pending line.now (with_marks so_far marks) result pending }
     ensures same { P.stores path.new ≡ P.stores path.old }
     ensures cause { HasCause (P.count path.old) (P.count path.new) (StopFailed result) }
 {
-    let directive = in_line(line.number, kind_of(line))?;
-    if is_conditional(&directive) {
-        in_line(
-            line.number,
-            turn(&so_far, within, pending, line, &directive),
-        )?;
-        return Ok(so_far);
-    }
-    if !pending.active() {
-        return Ok(so_far);
-    }
-    if is_include(&directive) {
+    if is_include(directive) {
         return include(path, so_far, within, line);
     }
     in_line(
         line.number,
-        follow_directive(so_far, within, line, &directive),
+        follow_directive(so_far, within, line, directive),
     )
 }
 
 /// An `#include`.
 #[cycle(walk)]
+#[inline(never)]
 fn include<P: Headers>(
     path: &mut P,
     so_far: Record,

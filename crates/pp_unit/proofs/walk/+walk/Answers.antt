@@ -1,12 +1,10 @@
-use Rattle.std.proofs.Common.{arith, ◌≡◌, refl, sym, ◌∙◌, subst, ap, List, Ok, Err, inl}
-use Rattle.pp_directives.specs.declared.directive.Directive.{Directive}
-use Rattle.pp_directives.specs.Directives.{directive_of}
+use Rattle.std.proofs.Common.{arith, ◌≡◌, refl, sym, ◌∙◌, subst, ap, List, true, Ok, Err, inl}
+use Rattle.pp_directives.specs.declared.open.Open.{Open}
+use Rattle.pp_directives.specs.Conditions.{is_active}
 use Rattle.std.proofs.lemmas.List.{drop_all}
-use Rattle.std.proofs.Common.{◌<◌, ◌+◌, length, suc, drop, inr, []}
-use Rattle.pp_tokens.specs.declared.line.Line.{Line}
-use Rattle.pp_directives.specs.Running.{Runs}
+use Rattle.std.proofs.Common.{◌<◌, ◌+◌, length, suc, drop, inr}
 use Rattle.pp_unit.specs.declared.within.Within.{Within}
-use Rattle.pp_unit.specs.Files.{Stores, Walks, Enters, IncludesFound, DoesInclude, inside, with_roles, last_number}
+use Rattle.pp_unit.specs.Files.{Stores, Walks, Enters, IncludesFound, DoesInclude, inside, last_number}
 use Rattle.pp_unit.specs.Seen.{macros, started, added}
 use Rattle.macro_table.specs.Items.{End}
 use Rattle.pp_unit.specs.HeaderNames.{NamesHeader}
@@ -15,86 +13,71 @@ use Rattle.pp_unit.specs.Stopping.{with_marks, StopComesTo}
 use Rattle.pp_unit.proofs.FileLemmas.{unnamed, told_name, deep, searched, finds_at, file_unlexed, file_ends, file_end_fails, file_stops, runs_lines, refused_what, file_failed, stop_failed, unlexed_plain}
 use Rattle.pp_unit.specs.Lines.{Directs}
 use Rattle.pp_unit.proofs.EnterLemmas.{left_inside, frames_inside, start_stops, enter_goes, enter_fails, told_start, not_found, not_found_failed, failed_search, found_is, found_no_failure, once_found, stop_map, entered_found}
-use Rattle.pp_unit.proofs.WalkLemmas.{rules, stop_by, LineSteps, runs_all, runs_more, runs_stop, runs_end, runs_unclosed}
-use Rattle.pp_unit.proofs.StepLemmas.{stopped_out, line_stop_by, told, included_steps, passed_steps, directed_steps, turned_steps, turn_stops, turned_ok}
-use Rattle.pp_unit.proofs.CauseLemmas.{no_cause, as_failed, cause_at, failed_to, failed_from, handed_plain, answered_plain, plain_out, plain_comes, plain_answers, plain_added, plain_started, plain_directs, plain_turned, plain_header}
+use Rattle.pp_unit.proofs.WalkLemmas.{stop_by, LineSteps, runs_all, runs_more, runs_stop, runs_end, runs_unclosed}
+use Rattle.pp_unit.proofs.StepLemmas.{stopped_out, told, included_steps, directed_steps}
+use Rattle.pp_unit.proofs.PassLemmas.{acting_steps}
+use Rattle.pp_unit.proofs.CauseLemmas.{no_cause, as_failed, cause_at, failed_to, failed_from, handed_plain, answered_plain, plain_out, plain_comes, plain_answers, plain_added, plain_started, plain_directs, plain_header}
 use Rattle.pp_unit.proofs.walk.+walk.Goals as goal
 
-pub follow_line-returns-in_err-directive-clause-step : goal.follow_line-returns-in_err-directive-clause-step
-follow_line-returns-in_err-directive-clause-step g t c left marks has =
-    line_stop_by (rules (g.P.Headers.stores c.args.path.now) left c.args.within.now) c.args.within.now c.args.pending.now c.args.pending.now c.args.line.now _ c.from_residual.result c.in_err-directive.field-0.0 c.from_residual.ensures.1
-    (inl (stopped_out c.args.line.now.number c.kind_of.result c.in_err-directive.field-0.0 c.in_err-directive.ensures c.kind_of.ensures.err))
-
-pub follow_line-returns-in_err-directive-clause-cause : goal.follow_line-returns-in_err-directive-clause-cause
-follow_line-returns-in_err-directive-clause-cause g t c =
-    no_cause _ _ _ refl (handed_plain c.args.line.now.number c.kind_of.result c.in_err-directive.field-0.0 c.from_residual.result c.in_err-directive.ensures (plain_out c.kind_of.result c.kind_of.ensures.err) c.from_residual.ensures.1)
-
-pub follow_line-returns-in_err-in_line-clause-step : goal.follow_line-returns-in_err-in_line-clause-step
-follow_line-returns-in_err-in_line-clause-step g t c =
-    let d = c.in_ok-directive.directive in
-    turn_stops (g.P.Headers.stores c.args.path.now) c.args.within.now c.args.pending.now c.turn.new.pending c.args.line.now c.args.so_far d c.turn.result c.in_err-in_line.field-0.0 c.from_residual-in_err-in_line.result
-    (told c.args.line.now.number c.kind_of.result d (λ (e : Directive). e ≡ directive_of c.args.line.now.tokens) c.in_ok-directive.ensures c.kind_of.ensures.ok) (sym (c.if-is_conditional.ensures)) c.turn.ensures c.in_err-in_line.ensures c.from_residual-in_err-in_line.ensures.1
-
-pub follow_line-returns-in_err-in_line-clause-cause : goal.follow_line-returns-in_err-in_line-clause-cause
-follow_line-returns-in_err-in_line-clause-cause g t c =
-    no_cause _ _ _ refl (handed_plain c.args.line.now.number c.turn.result c.in_err-in_line.field-0.0 c.from_residual-in_err-in_line.result c.in_err-in_line.ensures
-    (plain_turned c.args.within.now c.args.line.now c.args.so_far c.in_ok-directive.directive c.args.pending.now c.turn.new.pending c.turn.result c.turn.ensures) c.from_residual-in_err-in_line.ensures.1)
-
-pub follow_line-returns-then-is_conditional-clause-step : goal.follow_line-returns-then-is_conditional-clause-step
-follow_line-returns-then-is_conditional-clause-step g t c =
-    let d = c.in_ok-directive.directive in
-    turned_steps (g.P.Headers.stores c.args.path.now) c.args.within.now c.args.pending.now c.turn.new.pending c.args.line.now c.args.so_far d tt
-    (told c.args.line.now.number c.kind_of.result d (λ (e : Directive). e ≡ directive_of c.args.line.now.tokens) c.in_ok-directive.ensures c.kind_of.ensures.ok) (sym (c.if-is_conditional.ensures))
-    (turned_ok c.args.line.now.number c.args.within.now c.args.line.now c.args.so_far d c.args.pending.now c.turn.new.pending c.turn.result tt c.in_ok-in_line.ensures c.turn.ensures)
-
-pub follow_line-returns-then-not-active-clause-step : goal.follow_line-returns-then-not-active-clause-step
-follow_line-returns-then-not-active-clause-step g t c =
-    let d = c.in_ok-directive.directive in
-    passed_steps (g.P.Headers.stores c.args.path.now) c.args.within.now c.args.pending.now c.args.line.now c.args.so_far d
-    (told c.args.line.now.number c.kind_of.result d (λ (e : Directive). e ≡ directive_of c.args.line.now.tokens) c.in_ok-directive.ensures c.kind_of.ensures.ok) (sym (c.if-is_conditional.ensures)) (sym c.active.ensures ∙ c.if-not-active.true)
-
 pub follow_line-returns-then-is_include-clause-step : goal.follow_line-returns-then-is_include-clause-step
-follow_line-returns-then-is_include-clause-step g t c =
-    let d = c.in_ok-directive.directive in
-    included_steps (g.P.Headers.stores c.args.path.now) c.args.within.now c.args.pending.now c.args.line.now c.args.so_far d c.include.result
-    (told c.args.line.now.number c.kind_of.result d (λ (e : Directive). e ≡ directive_of c.args.line.now.tokens) c.in_ok-directive.ensures c.kind_of.ensures.ok) (sym (c.if-is_conditional.ensures)) (sym c.active.ensures ∙ c.if-not-active.false) (sym c.if-is_include.ensures) c.include.ensures.included
+follow_line-returns-then-is_include-clause-step g t c pending active =
+    included_steps (g.P.Headers.stores c.args.path.now) c.args.within.now pending c.args.line.now c.args.so_far c.args.directive.now c.include.result
+    c.requires.known c.requires.other active (sym c.if-is_include.ensures) c.include.ensures.included
 
 pub follow_line-returns-then-is_include-clause-cause : goal.follow_line-returns-then-is_include-clause-cause
 follow_line-returns-then-is_include-clause-cause g t c = c.include.ensures.cause
 
 pub follow_line-returns-clause-step : goal.follow_line-returns-clause-step
-follow_line-returns-clause-step g t c =
-    let d = c.in_ok-directive.directive in
-    directed_steps (g.P.Headers.stores c.args.path.now) c.args.within.now c.args.pending.now c.args.line.now c.args.so_far d c.follow_directive.result c.in_line-2.result
-    (told c.args.line.now.number c.kind_of.result d (λ (e : Directive). e ≡ directive_of c.args.line.now.tokens) c.in_ok-directive.ensures c.kind_of.ensures.ok) (sym (c.if-is_conditional.ensures)) (sym c.active.ensures ∙ c.if-not-active.false) (sym c.if-is_include.ensures) c.follow_directive.ensures c.in_line-2.ensures
+follow_line-returns-clause-step g t c pending active =
+    directed_steps (g.P.Headers.stores c.args.path.now) c.args.within.now pending c.args.line.now c.args.so_far c.args.directive.now c.follow_directive.result c.in_line.result
+    c.requires.known c.requires.other active (sym c.if-is_include.ensures) c.follow_directive.ensures c.in_line.ensures
 
 pub follow_line-returns-clause-cause : goal.follow_line-returns-clause-cause
 follow_line-returns-clause-cause g t c =
-    no_cause _ _ _ refl (answered_plain c.args.line.now.number c.follow_directive.result c.in_line-2.result c.in_line-2.ensures
-    (plain_comes (Directs c.args.within.now c.args.line.now c.in_ok-directive.directive c.args.so_far) c.follow_directive.result (plain_directs c.args.within.now c.args.line.now c.in_ok-directive.directive c.args.so_far) c.follow_directive.ensures))
+    no_cause _ _ _ refl (answered_plain c.args.line.now.number c.follow_directive.result c.in_line.result c.in_line.ensures
+    (plain_comes (Directs c.args.within.now c.args.line.now c.args.directive.now c.args.so_far) c.follow_directive.result (plain_directs c.args.within.now c.args.line.now c.args.directive.now c.args.so_far) c.follow_directive.ensures))
 
 pub follow_lines-loop-line-init : goal.follow_lines-loop-line-init
 follow_lines-loop-line-init g t c = record { same = refl; kept = refl; runs = runs_all _ _ _ _ _ c.new-pending.ensures }
+
+pub follow_lines-loop-line-preserved-in_default : goal.follow_lines-loop-line-preserved-in_default
+follow_lines-loop-line-preserved-in_default g t c = record {
+  same = c.loop-line.invariant.same;
+  kept = c.loop-line.invariant.kept;
+  runs = runs_more (g.P.Headers.stores c.args.path.now) c.args.within.now c.args.lines.now c.args.so_far c.loop-line.pending c.acting.new.pending c.loop-line.line-index c.line-item.result c.loop-line.so_far c.loop-line.so_far
+      c.loop-line-test.true c.line-item.is c.loop-line.invariant.runs ((rw c.in_default.is at c.in_ok-acts.ensures.step) (g.P.Headers.stores c.args.path.now));
+}
 
 pub follow_lines-loop-line-preserved : goal.follow_lines-loop-line-preserved
 follow_lines-loop-line-preserved g t c = record {
   same = c.in_ok-so_far.ensures.same ∙ c.loop-line.invariant.same;
   kept = c.in_ok-so_far.ensures.cause.kept (λ never. never) ∙ c.loop-line.invariant.kept;
-  runs = runs_more (g.P.Headers.stores c.args.path.now) c.args.within.now c.args.lines.now c.args.so_far c.loop-line.pending c.follow_line.new.pending c.loop-line.line-index c.line-item.result c.loop-line.so_far c.in_ok-so_far.so_far
+  runs = runs_more (g.P.Headers.stores c.args.path.now) c.args.within.now c.args.lines.now c.args.so_far c.loop-line.pending c.acting.new.pending c.loop-line.line-index c.line-item.result c.loop-line.so_far c.in_ok-so_far.so_far
       c.loop-line-test.true c.line-item.is c.loop-line.invariant.runs
-      (subst (λ (s : Stores). LineSteps s c.args.within.now c.loop-line.pending c.line-item.result c.loop-line.so_far (Ok c.in_ok-so_far.so_far) c.follow_line.new.pending) c.loop-line.invariant.same c.in_ok-so_far.ensures.step);
+      (acting_steps (g.P.Headers.stores c.args.path.now) c.args.within.now c.loop-line.pending c.acting.new.pending c.line-item.result c.loop-line.so_far c.in-Some.directive (Ok c.in_ok-so_far.so_far) (rw c.in-Some.is at c.in_ok-acts.ensures.step)
+      (subst (λ (s : Stores). (pending : List Open) → is_active pending ≡ true → LineSteps s c.args.within.now pending c.line-item.result c.loop-line.so_far (Ok c.in_ok-so_far.so_far) pending) c.loop-line.invariant.same c.in_ok-so_far.ensures.step));
 }
+
+pub follow_lines-returns-in_err-acts-clause-run : goal.follow_lines-returns-in_err-acts-clause-run
+follow_lines-returns-in_err-acts-clause-run g t c =
+    runs_stop (g.P.Headers.stores c.args.path.now) c.args.within.now c.args.lines.now c.args.so_far c.loop-line.pending c.acting.new.pending c.loop-line.line-index c.line-item.result c.loop-line.so_far c.in_err-acts.field-0.0 c.from_residual.result
+    c.loop-line-test.true c.line-item.is c.loop-line.invariant.runs (c.in_err-acts.ensures.step (g.P.Headers.stores c.args.path.now)) c.from_residual.ensures.1
+
+pub follow_lines-returns-in_err-acts-clause-cause : goal.follow_lines-returns-in_err-acts-clause-cause
+follow_lines-returns-in_err-acts-clause-cause g t c =
+    no_cause _ _ _ c.loop-line.invariant.kept (λ h. c.in_err-acts.ensures.plain (failed_from c.from_residual.result c.in_err-acts.field-0.0 c.from_residual.ensures.1 h))
 
 pub follow_lines-returns-in_err-so_far-clause-run : goal.follow_lines-returns-in_err-so_far-clause-run
 follow_lines-returns-in_err-so_far-clause-run g t c =
-    runs_stop (g.P.Headers.stores c.args.path.now) c.args.within.now c.args.lines.now c.args.so_far c.loop-line.pending c.follow_line.new.pending c.loop-line.line-index c.line-item.result c.loop-line.so_far c.in_err-so_far.field-0.0 c.from_residual.result
+    runs_stop (g.P.Headers.stores c.args.path.now) c.args.within.now c.args.lines.now c.args.so_far c.loop-line.pending c.acting.new.pending c.loop-line.line-index c.line-item.result c.loop-line.so_far c.in_err-so_far.field-0.0 c.from_residual-in_err-so_far.result
     c.loop-line-test.true c.line-item.is c.loop-line.invariant.runs
-    (subst (λ (s : Stores). LineSteps s c.args.within.now c.loop-line.pending c.line-item.result c.loop-line.so_far (Err c.in_err-so_far.field-0.0) c.follow_line.new.pending) c.loop-line.invariant.same c.in_err-so_far.ensures.step)
-    c.from_residual.ensures.1
+    (acting_steps (g.P.Headers.stores c.args.path.now) c.args.within.now c.loop-line.pending c.acting.new.pending c.line-item.result c.loop-line.so_far c.in-Some.directive (Err c.in_err-so_far.field-0.0) (rw c.in-Some.is at c.in_ok-acts.ensures.step)
+    (subst (λ (s : Stores). (pending : List Open) → is_active pending ≡ true → LineSteps s c.args.within.now pending c.line-item.result c.loop-line.so_far (Err c.in_err-so_far.field-0.0) pending) c.loop-line.invariant.same c.in_err-so_far.ensures.step))
+    c.from_residual-in_err-so_far.ensures.1
 
 pub follow_lines-returns-in_err-so_far-clause-cause : goal.follow_lines-returns-in_err-so_far-clause-cause
 follow_lines-returns-in_err-so_far-clause-cause g t c =
-    as_failed _ _ _ _ (failed_to c.from_residual.result c.in_err-so_far.field-0.0 c.from_residual.ensures.1) (failed_from c.from_residual.result c.in_err-so_far.field-0.0 c.from_residual.ensures.1)
+    as_failed _ _ _ _ (failed_to c.from_residual-in_err-so_far.result c.in_err-so_far.field-0.0 c.from_residual-in_err-so_far.ensures.1) (failed_from c.from_residual-in_err-so_far.result c.in_err-so_far.field-0.0 c.from_residual-in_err-so_far.ensures.1)
     (cause_at _ _ _ _ c.loop-line.invariant.kept c.in_err-so_far.ensures.cause)
 
 pub follow_lines-returns-in-None-clause-run : goal.follow_lines-returns-in-None-clause-run
@@ -104,12 +87,12 @@ follow_lines-returns-in-None-clause-run g t c =
 pub follow_lines-returns-in-None-clause-cause : goal.follow_lines-returns-in-None-clause-cause
 follow_lines-returns-in-None-clause-cause g t c = no_cause _ _ _ c.loop-line.invariant.kept (λ never. never)
 
-pub follow_lines-returns-in-Some-clause-run : goal.follow_lines-returns-in-Some-clause-run
-follow_lines-returns-in-Some-clause-run g t c =
-    runs_unclosed (g.P.Headers.stores c.args.path.now) c.args.within.now c.args.lines.now c.args.so_far c.loop-line.pending (drop c.loop-line.line-index c.args.lines.now) c.loop-line.so_far c.in-Some.line (drop_all c.loop-line.line-index c.args.lines.now (omega arith)) (sym c.in-Some.ensures) c.loop-line.invariant.runs
+pub follow_lines-returns-in-Some-open_line-clause-run : goal.follow_lines-returns-in-Some-open_line-clause-run
+follow_lines-returns-in-Some-open_line-clause-run g t c =
+    runs_unclosed (g.P.Headers.stores c.args.path.now) c.args.within.now c.args.lines.now c.args.so_far c.loop-line.pending (drop c.loop-line.line-index c.args.lines.now) c.loop-line.so_far c.in-Some-open_line.line (drop_all c.loop-line.line-index c.args.lines.now (omega arith)) (sym c.in-Some-open_line.ensures) c.loop-line.invariant.runs
 
-pub follow_lines-returns-in-Some-clause-cause : goal.follow_lines-returns-in-Some-clause-cause
-follow_lines-returns-in-Some-clause-cause g t c = no_cause _ _ _ c.loop-line.invariant.kept (λ is. cc)
+pub follow_lines-returns-in-Some-open_line-clause-cause : goal.follow_lines-returns-in-Some-open_line-clause-cause
+follow_lines-returns-in-Some-open_line-clause-cause g t c = no_cause _ _ _ c.loop-line.invariant.kept (λ is. cc)
 
 pub enter-returns-in_err-within-clause-entered : goal.enter-returns-in_err-within-clause-entered
 enter-returns-in_err-within-clause-entered g t c left marks has =
