@@ -185,7 +185,7 @@ place-line cleans line bytes place some = by (front_of cleans bytes) refl
 pub place-behind : (cleans : Bool) (line : ℕ) (bytes : List ℕ) (byte width : ℕ) → IsPlace cleans line bytes → front_of cleans bytes ≡ Some (byte, width) → left_of cleans (line_behind line byte) (drop width bytes) ≡ drop 1 (left_of cleans line bytes)
 place-behind cleans line bytes byte width place is = ap (drop 1) (sym (place-some cleans line bytes (byte, width) place is))
 
-apart : (a b : ℕ) → a ≢ b → eqb a b ≡ false
+pub apart : (a b : ℕ) → a ≢ b → eqb a b ≡ false
 apart a b other = to_false (eqb a b) (λ is. other (eqb-true a b is))
 
 plain_front : (cleans : Bool) (a : ℕ) (bs : List ℕ) → a ≢ 63 → front_of cleans (a ∷ bs) ≡ Some (a, 1)

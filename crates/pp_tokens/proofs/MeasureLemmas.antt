@@ -1,11 +1,11 @@
--- An element in front is passed over whole.
-use Rattle.std.proofs.Common.{◌≡◌, ℕ, suc, ◌+◌, Bool, true, false, not, ◌&&◌, ◌||◌, cond, eqb, List, [], ◌∷◌, drop, Option, Some, None, refl, sym, ◌∙◌, ap, length, ◌≤◌, arith}
+-- What is counted over the bytes in front goes on behind them.
+use Rattle.std.proofs.Common.{◌≡◌, ℕ, suc, ◌+◌, Bool, true, false, not, ◌&&◌, ◌||◌, cond, eqb, List, [], ◌∷◌, take, drop, Option, Some, None, refl, sym, ◌∙◌, ap, length, ◌≤◌, arith}
 use Rattle.std.specs.Option.{option_map}
 use Rattle.std.proofs.lemmas.List.{drop-map, length-map}
 use Rattle.pp_tokens.specs.Cleaning.{Char, bytes_of}
-use Rattle.pp_tokens.specs.Cut.{up_to_close}
-use Rattle.pp_tokens.specs.Kinds.{first_is}
-use Rattle.pp_tokens.specs.Scan.{first_byte, element, closing}
+use Rattle.pp_tokens.specs.Cut.{line_rest, up_to_close}
+use Rattle.pp_tokens.specs.Kinds.{first_is, is_word}
+use Rattle.pp_tokens.specs.Scan.{first_byte, word_length, element, closing}
 
 pub map_same : (f g : ℕ → ℕ) (o : Option ℕ) → ((n : ℕ) → f n ≡ g n) → option_map f o ≡ option_map g o
 map_same f g None same = refl
@@ -114,3 +114,42 @@ element_fits q (b ∷ c ∷ bs) = element_cases (eqb b q) (eqb b 10) (eqb b 92) 
 
 pub element-le : (q : ℕ) (cs : List Char) → element q (bytes_of cs) ≤ length cs
 element-le q cs = omega (arith, element_fits q (bytes_of cs), length-map cs (λ (c : Char). c.byte))
+
+-- bytes in front are no more than there are
+pub front-le : (front : List ℕ) (cs : List Char) → front ≡ bytes_of (take (length front) cs) → length front ≤ length cs
+front-le [] cs is = omega arith
+front-le (b ∷ bs) [] is = cc
+front-le (b ∷ bs) (c ∷ cs) is = let rest : bs ≡ bytes_of (take (length bs) cs) = cc in omega (arith, front-le bs cs rest)
+
+-- one byte in front of what was counted so
+word_cases : (t : Bool) (n : ℕ) (c : Char) (cs : List Char) → is_word c.byte ≡ t → n + word_length (bytes_of (drop n cs)) ≡ word_length (bytes_of cs) →
+    cond t (1 + n) 0 + word_length (bytes_of (drop (cond t (1 + n) 0) (c ∷ cs))) ≡ word_length (bytes_of (c ∷ cs))
+word_cases true n c cs is inner = grind arith
+word_cases false n c cs is inner = omega arith
+
+-- the letters and digits of the bytes in front are counted, and those behind them
+pub word-on : (front : List ℕ) (cs : List Char) → front ≡ bytes_of (take (length front) cs) → word_length front + word_length (bytes_of (drop (word_length front) cs)) ≡ word_length (bytes_of cs)
+word-on [] cs is = omega arith
+word-on (b ∷ bs) [] is = cc
+word-on (b ∷ bs) (c ∷ cs) is =
+    let same : c.byte ≡ b = cc in
+    let rest : bs ≡ bytes_of (take (length bs) cs) = cc in
+    word_cases (is_word b) (word_length bs) c cs (ap is_word same) (word-on bs cs rest)
+
+-- one byte that is no line feed in front of what was counted so
+line_cases : (t : Bool) (bs : List ℕ) (c : Char) (cs : List Char) → eqb c.byte 10 ≡ t → ◌≡◌ {A = ℕ} (cond t 0 (suc (line_rest bs))) (suc (length bs)) →
+    (line_rest bs ≡ length bs → length bs + line_rest (bytes_of (drop (length bs) cs)) ≡ line_rest (bytes_of cs)) →
+    suc (length bs) + line_rest (bytes_of (drop (length bs) cs)) ≡ line_rest (bytes_of (c ∷ cs))
+line_cases true bs c cs is none inner = absurd (omega (arith, none))
+line_cases false bs c cs is none inner =
+    let more : length bs + line_rest (bytes_of (drop (length bs) cs)) ≡ line_rest (bytes_of cs) = inner (omega (arith, none)) in
+    rw is (omega (arith, more))
+
+-- where no line feed is among the bytes in front, all of them are counted
+pub line-on : (front : List ℕ) (cs : List Char) → front ≡ bytes_of (take (length front) cs) → line_rest front ≡ length front → length front + line_rest (bytes_of (drop (length front) cs)) ≡ line_rest (bytes_of cs)
+line-on [] cs is none = omega arith
+line-on (b ∷ bs) [] is none = cc
+line-on (b ∷ bs) (c ∷ cs) is none =
+    let same : c.byte ≡ b = cc in
+    let rest : bs ≡ bytes_of (take (length bs) cs) = cc in
+    line_cases (eqb b 10) bs c cs (ap (λ x. eqb x 10) same) none (line-on bs cs rest)

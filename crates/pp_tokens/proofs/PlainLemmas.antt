@@ -1,8 +1,9 @@
 -- Bytes in front that spell themselves.
-use Rattle.std.proofs.Common.{◌≡◌, ◌≤◌, ℕ, zero, suc, ◌+◌, Bool, List, [], ◌∷◌, length, take, drop, refl, sym, ◌∙◌, ap, subst, arith}
+use Rattle.std.proofs.Common.{◌≡◌, ◌≤◌, ℕ, zero, suc, ◌+◌, Bool, cond, List, [], ◌∷◌, length, take, drop, refl, sym, ◌∙◌, ap, subst, arith}
 use Rattle.pp_tokens.specs.Cleaning.{bytes_of}
 use Rattle.pp_tokens.specs.Raw.{IsPlace, IsPlain, ArePlain, left_of}
-use Rattle.pp_tokens.proofs.CleanLemmas.{plain-head, plain-place}
+use Rattle.pp_tokens.specs.Cut.{line_rest}
+use Rattle.pp_tokens.proofs.CleanLemmas.{apart, plain-head, plain-place}
 
 -- one is passed over
 pub plain_shorter : (bytes : List ℕ) → IsPlain bytes → suc (length (drop 1 bytes)) ≡ length bytes
@@ -27,6 +28,13 @@ plain_past zero k n bytes is all = subst (λ x. ArePlain x bytes) (omega (arith,
 plain_past (suc m) k zero bytes is all = absurd (omega (arith, is))
 plain_past (suc m) k (suc n) [] is all = absurd all.0
 plain_past (suc m) k (suc n) (a ∷ bs) is all = plain_past m k n bs (omega (arith, is)) all.1
+
+-- none of them is a line feed
+pub plain_line : (n : ℕ) (bytes : List ℕ) → ArePlain n bytes → line_rest (take n bytes) ≡ n
+plain_line zero bytes all = refl
+plain_line (suc n) [] all = absurd all.0
+plain_line (suc n) (a ∷ []) all = absurd all.0
+plain_line (suc n) (a ∷ b ∷ bs) all = ap (λ t. cond t 0 (suc (line_rest (take n (b ∷ bs))))) (apart a 10 all.0.1) ∙ ap suc (plain_line n (b ∷ bs) all.1)
 
 module _ (cleans : Bool) (line : ℕ) where
   -- behind them the cursor stands as before

@@ -93,12 +93,16 @@ is_str = is_prefixed (is_quoted 34) ([] ∷ codes "u8" ∷ codes "u" ∷ codes "
 -- the punctuators (6.4.6), in an order in which each stands before those that it begins with
 abbrev pub punctuators : List (List ℕ)
 punctuators =
-    codes "(" ∷ codes ")" ∷ codes "," ∷ codes ";" ∷ codes "##" ∷ codes "#" ∷ codes "*=" ∷ codes "*" ∷ codes "[" ∷ codes "]" ∷ codes "{" ∷ codes "}" ∷ codes "~" ∷ codes "?"
-    ∷ codes "%:%:" ∷ codes "..." ∷ codes "<<=" ∷ codes ">>="
-    ∷ codes "->" ∷ codes "++" ∷ codes "--" ∷ codes "<<" ∷ codes ">>" ∷ codes "<=" ∷ codes ">=" ∷ codes "==" ∷ codes "!=" ∷ codes "&&" ∷ codes "||"
-    ∷ codes "/=" ∷ codes "%=" ∷ codes "+=" ∷ codes "-=" ∷ codes "&=" ∷ codes "^=" ∷ codes "|="
-    ∷ codes "<:" ∷ codes ":>" ∷ codes "<%" ∷ codes "%>" ∷ codes "%:"
-    ∷ codes "." ∷ codes "&" ∷ codes "+" ∷ codes "-" ∷ codes "!" ∷ codes "/" ∷ codes "%" ∷ codes "<" ∷ codes ">" ∷ codes "^" ∷ codes "|" ∷ codes ":" ∷ codes "="
+    codes "(" ∷ codes ")" ∷ codes "," ∷ codes ";" ∷ codes "##" ∷ codes "#" ∷ codes "*=" ∷ codes "*"
+    ∷ codes "{" ∷ codes "}" ∷ codes "[" ∷ codes "]" ∷ codes "||" ∷ codes "|=" ∷ codes "|" ∷ codes "&&" ∷ codes "&=" ∷ codes "&"
+    ∷ codes "!=" ∷ codes "!" ∷ codes "==" ∷ codes "="
+    ∷ codes "->" ∷ codes "--" ∷ codes "-=" ∷ codes "-"
+    ∷ codes "..." ∷ codes "." ∷ codes "++" ∷ codes "+=" ∷ codes "+"
+    ∷ codes "<<=" ∷ codes "<<" ∷ codes "<=" ∷ codes "<:" ∷ codes "<%" ∷ codes "<"
+    ∷ codes ">>=" ∷ codes ">>" ∷ codes ">=" ∷ codes ">"
+    ∷ codes ":>" ∷ codes ":" ∷ codes "?"
+    ∷ codes "/=" ∷ codes "/" ∷ codes "%:%:" ∷ codes "%:" ∷ codes "%=" ∷ codes "%>" ∷ codes "%"
+    ∷ codes "^=" ∷ codes "^" ∷ codes "~"
     ∷ []
 
 -- a punctuator of the table (6.4.6)

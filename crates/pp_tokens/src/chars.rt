@@ -1,6 +1,6 @@
 ghost use Rattle.std.specs.Prelude.{◌≡◌, ◌==◌, ◌<◌, ◌≢◌, ◌+◌, ◌^◌, false, [], take, drop, length, IfSome};
 ghost use Rattle.pp_tokens.specs.Cleaning.{bytes_of, on_line_one, cleaned, cleaned_from};
-ghost use Rattle.pp_tokens.specs.Cut.{line_of};
+ghost use Rattle.pp_tokens.specs.Cut.{line_of, line_rest};
 ghost use Rattle.pp_tokens.specs.Kinds.{first_is};
 ghost use Rattle.pp_tokens.specs.Raw.{left_of, line_behind};
 ghost use Rattle.pp_tokens.specs.Scan.{first_byte};
@@ -164,6 +164,15 @@ impl<'a> Chars<'a> {
         } else {
             None
         }
+    }
+
+    /// The bytes in front that are known to be plain: each spells itself, and none is a line feed.
+    #[inline]
+    pub fn plain_front(&self) -> &'a [u8]
+        ensures front { result.now ≡ bytes_of (take (length result.now) self.now) }
+        ensures no_feed { line_rest result.now ≡ length result.now }
+    {
+        in_front(self.rest, self.plain)
     }
 
     /// A second cursor at the same place.

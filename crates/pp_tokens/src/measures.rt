@@ -7,14 +7,29 @@ ghost use Rattle.pp_tokens.specs.Scan.{word_length, number_rest, element, closin
 use crate::chars::Chars;
 use crate::classes::{goes_on, is_word};
 
+/// How many letters and digits these bytes begin with.
+fn words_in(bytes: &[u8]) -> usize
+    ensures { result ≡ word_length bytes.now }
+{
+    let mut length = 0;
+    for byte in bytes {
+        if !is_word(*byte) {
+            return length;
+        }
+        length += 1;
+    }
+    length
+}
+
 /// How many letters and digits stand in front.
 pub fn word_length(chars: &Chars<'_>) -> usize
     ensures value { result ≡ word_length (bytes_of chars.now) }
     ensures bound { result ≤ length chars.now }
     ensures small { length chars.now < 2 ^ 63 }
 {
+    let mut length = words_in(chars.plain_front());
     let mut ahead = chars.fork();
-    let mut length = 0;
+    ahead.skip(length);
     while let Some(byte) = ahead.peek() {
         if !is_word(byte) {
             return length;
@@ -51,8 +66,10 @@ pub fn line_rest(chars: &Chars<'_>) -> usize
     ensures bound { result ≤ length chars.now }
     ensures small { length chars.now < 2 ^ 63 }
 {
+    let plain = chars.plain_front();
+    let mut length = plain.len();
     let mut ahead = chars.fork();
-    let mut length = 0;
+    ahead.skip(length);
     while let Some(byte) = ahead.peek() {
         if byte == b'\n' {
             return length;
