@@ -1,14 +1,17 @@
 -- What a text expands to, from the answer of the code for its list.
-use Rattle.std.proofs.Common.{◌≡◌, ℕ, false, List, [], ◌∷◌, map, Vec, Result, Ok, Err, ◌⊎◌, inl, inr, refl, sym, ap, ◌∙◌, subst}
+use Rattle.std.proofs.Common.{◌≡◌, ℕ, Bool, true, false, ◌||◌, not, List, [], ◌∷◌, map, Vec, Result, Ok, Err, ◌⊎◌, inl, inr, refl, sym, ap, ◌∙◌, subst}
+use Rattle.std.specs.List.{list_any}
 use Rattle.std.specs.declared.alloc.Global.{Global}
 use Rattle.pp_tokens.specs.declared.token.Token.{Token}
 use Rattle.macro_expand.specs.declared.hidden.Hidden.{Hidden}
 use Rattle.macro_expand.specs.declared.fault.ExpandFault.{ExpandFault}
 use Rattle.macro_expand.specs.declared.fault.ExpandFault.TheVariants.{NoMemory, OpenCall, ArgCount, BadPaste, BadString, BadDefinition, LoneQuote, TooLong}
-use Rattle.macro_expand.specs.Marked.{Marked, fresh}
+use Rattle.macro_expand.specs.declared.here.Here.{Here}
+use Rattle.macro_expand.specs.Marked.{Marked, fresh, is_identifier}
+use Rattle.macro_expand.specs.Macros.{Macros}
 use Rattle.macro_expand.specs.Calls.{first_list}
 use Rattle.macro_expand.specs.Expansion.{Answer, has_lone_quote, tokens_of}
-use Rattle.macro_expand.specs.Rules.{Whole, Scanned}
+use Rattle.macro_expand.specs.Rules.{Empty, Kept, Expands, Ends, Keeps, Whole, Scanned}
 use Rattle.macro_expand.specs.States.{marked}
 use Rattle.macro_expand.specs.Machine.{AnswersList}
 use Rattle.macro_expand.specs.Answering.{IsAnswer}
@@ -55,3 +58,22 @@ module _ (Lists : List Marked → ℕ → Answer → Type 0) (go : List Marked �
   pub exact_fault : (fault : ExpandFault) → (fault ≡ NoMemory) ⊎ (tokens_of (go (first_list ls) 0) ≡ Err fault) → IsAnswer (Whole Lists tokens) (Err fault)
   exact_fault fault (inl m) = no_memory (Whole Lists tokens) fault m
   exact_fault fault (inr e) = answer_is (Whole Lists tokens) fault (subst (λ r. Whole Lists tokens r) e (scanned (go (first_list ls) 0) refl))
+
+fresh_tokens : (tokens : List Token) → map (λ (m : Marked). m.token) (map fresh tokens) ≡ tokens
+fresh_tokens [] = refl
+fresh_tokens (t ∷ ts) = ap (λ l. t ∷ l) (fresh_tokens ts)
+
+-- Tokens without an identifier among them stay as they are.
+module _ (macros : Macros) (here : Here) where
+  unnamed_by : (work : ℕ) (t : Token) (ts : List Token) (name : Bool) → is_identifier t.kind ≡ name → (name || list_any (λ (t : Token). is_identifier t.kind) ts) ≡ false →
+      (list_any (λ (t : Token). is_identifier t.kind) ts ≡ false → Expands macros here (map fresh ts) work (Ok (map fresh ts, work))) →
+      Expands macros here (map fresh (t ∷ ts)) work (Ok (map fresh (t ∷ ts), work))
+  unnamed_by work t ts true is none rest = cc
+  unnamed_by work t ts false is none rest = Keeps (Kept (ap (λ b. not b || false) is)) (rest none)
+
+  unnamed_list : (work : ℕ) (tokens : List Token) → list_any (λ (t : Token). is_identifier t.kind) tokens ≡ false → Expands macros here (map fresh tokens) work (Ok (map fresh tokens, work))
+  unnamed_list work [] none = Ends Empty
+  unnamed_list work (t ∷ ts) none = unnamed_by work t ts (is_identifier t.kind) refl none (unnamed_list work ts)
+
+  pub unnamed : (tokens : List Token) → has_lone_quote tokens ≡ false → list_any (λ (t : Token). is_identifier t.kind) tokens ≡ false → Whole (Expands macros here) tokens (Ok tokens)
+  unnamed tokens l none = subst (λ ts. Whole (Expands macros here) tokens (Ok ts)) (fresh_tokens tokens) (Scanned l (unnamed_list 0 tokens none))

@@ -1,6 +1,8 @@
 // The expansion of a text.
 ghost use Rattle.std.specs.Prelude.{◌≡◌, IfOk, map};
+ghost use Rattle.std.specs.List.{list_any};
 ghost use Rattle.macro_expand.specs.Macros.{macros_of};
+ghost use Rattle.macro_expand.specs.Marked.{is_identifier};
 ghost use Rattle.macro_expand.specs.Expansion.{has_lone_quote};
 ghost use Rattle.macro_expand.specs.Rules.{ExpandsTo};
 ghost use Rattle.macro_expand.specs.Answering.{IsAnswer};
@@ -11,7 +13,7 @@ use crate::hidden::{Hidden, with_tokens};
 use crate::known::Definitions;
 use crate::machine::run;
 use crate::stack::fresh_list;
-use crate::token::is_lone_quote;
+use crate::token::{is_identifier, is_lone_quote};
 use macro_table::Table;
 use pp_tokens::{Token, Tokens};
 use std::alloc::{AllocError, Global};
@@ -26,6 +28,13 @@ pub fn has_lone_quote(tokens: &[Token]) -> bool
         }
     }
     false
+}
+
+/// Whether an identifier is among the tokens.
+fn has_identifier(tokens: &[Token]) -> bool
+    ensures { result ≡ list_any (λ t. is_identifier t.kind) tokens.now }
+{
+    tokens.iter().any(|token| is_identifier(token.kind))
 }
 
 /// The tokens without their hide sets.
@@ -48,6 +57,9 @@ pub fn expand(
 {
     if has_lone_quote(tokens.as_slice()) {
         return Err(ExpandFault::LoneQuote);
+    }
+    if !has_identifier(tokens.as_slice()) {
+        return Ok(tokens.copy()?);
     }
     let slots = fresh_list(alloc, tokens.as_slice())?;
     let mut definitions = Definitions::new(alloc, table);

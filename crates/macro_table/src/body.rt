@@ -1,13 +1,11 @@
-ghost use Rattle.std.specs.Prelude.{◌≡◌, IfOk};
+ghost use Rattle.std.specs.Prelude.{◌≡◌};
 ghost use Rattle.std.specs.List.{list_any};
 ghost use Rattle.macro_table.specs.Definitions.{is_lone_quote, is_va_args, is_paste, is_param, first_passes, last_passes, has_lone_hash, breaks_hash_rule, body_fault};
 
 use crate::fault::DefFault;
 use crate::params::Params;
 use crate::sorts::{is_hash, is_lone_quote, is_paste, is_va_args};
-use mac_base::NoMemory;
-use pp_tokens::{Token, Tokens};
-use std::alloc::Global;
+use pp_tokens::Token;
 
 /// The first fault of a replacement list (C17 6.10.3 p5, 6.10.3.2 p1 and 6.10.3.3 p1).
 pub fn body_fault(params: &Option<Params>, variadic: bool, body: &[Token]) -> Option<DefFault>
@@ -101,15 +99,4 @@ fn is_param(params: &Params, variadic: bool, token: &Token) -> bool
     ensures { result ≡ is_param params.now variadic token.now }
 {
     params.has(token.text.as_slice()) || variadic && is_va_args(token)
-}
-
-/// A list of its own with the same tokens.
-pub fn copied(alloc: Global, body: &[Token]) -> Result<Tokens, NoMemory>
-    ensures { IfOk result (λ copied. copied ≡ body.now) }
-{
-    let mut items = Vec::new(alloc);
-    for token in body {
-        items.push(token.copy()?)?;
-    }
-    Ok(Tokens::from_vec(items))
 }

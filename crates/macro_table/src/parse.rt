@@ -3,14 +3,14 @@ ghost use Rattle.macro_table.specs.Answers.{Answers};
 ghost use Rattle.macro_table.specs.Definitions.{name_fault, checked, def_behind, def_of};
 ghost use Rattle.macro_table.specs.declared.fault.DefFault.TheVariants.{NoMemory as RanOut};
 
-use crate::body::{body_fault, copied};
+use crate::body::body_fault;
 use crate::definition::Def;
 use crate::fault::DefFault;
 use crate::list::{ParamList, param_list};
 use crate::params::Params;
 use crate::sorts::{has_list, is_identifier, is_reserved};
 use mac_base::{Bytes, Paths};
-use pp_tokens::Token;
+use pp_tokens::{Token, Tokens};
 use std::alloc::Global;
 
 /// The definition that the tokens behind `#define` are (C17 6.10.3), or the first of its faults: of the name, of the
@@ -72,7 +72,7 @@ fn checked(
         name: name.copy()?,
         params: into_paths(params),
         variadic,
-        body: copied(alloc, body)?,
+        body: Tokens::from_slice(alloc, body)?,
     })
 }
 

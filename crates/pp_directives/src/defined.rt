@@ -119,8 +119,15 @@ fn first_piece<'a>(
 pub fn resolve_defined(alloc: Global, tokens: &Tokens, table: &Table) -> Result<Tokens, ExprFault>
     ensures { Answers RanOut result (resolved (is_defined table.now) tokens.now) }
 {
-    let mut done = Tokens::new(alloc);
-    let mut left = tokens.as_slice();
+    resolve_slice(alloc, tokens.as_slice(), table)
+}
+
+/// The same for tokens that stand in a longer list.
+pub fn resolve_slice(alloc: Global, tokens: &[Token], table: &Table) -> Result<Tokens, ExprFault>
+    ensures { Answers RanOut result (resolved (is_defined table.now) tokens.now) }
+{
+    let mut done = Tokens::with_capacity(alloc, tokens.len())?;
+    let mut left = tokens;
     while let Some(Piece { token, behind }) = first_piece(alloc, table, left)? {
         done.push(token)?;
         left = behind;

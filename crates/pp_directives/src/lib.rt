@@ -26,7 +26,7 @@ mod value_tests;
 mod word;
 
 pub use conditions::Conditions;
-pub use defined::{is_defined, resolve_defined};
+pub use defined::{is_defined, resolve_defined, resolve_slice};
 pub use directive::Directive;
 pub use fault::{ExprFault, StructFault};
 pub use laws::{Following, conditions_follow_groups, lines_run_as_their_tree, trees_are_of_roles};

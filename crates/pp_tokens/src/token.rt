@@ -71,6 +71,15 @@ impl Tokens {
         }
     }
 
+    /// No tokens, with room for so many.
+    pub fn with_capacity(alloc: Global, count: usize) -> Result<Tokens, NoMemory>
+        ensures { IfOk result (λ made. made ≡ []) }
+    {
+        Ok(Tokens {
+            items: Vec::with_capacity(alloc, count)?,
+        })
+    }
+
     /// The same tokens, without taking memory.
     pub fn from_vec(items: Vec<Token>) -> Tokens
         ensures { result ≡ items.items }
@@ -84,6 +93,17 @@ impl Tokens {
     {
         let Tokens { items } = self;
         items
+    }
+
+    /// A list of its own with these tokens.
+    pub fn from_slice(alloc: Global, tokens: &[Token]) -> Result<Tokens, NoMemory>
+        ensures { IfOk result (λ made. made ≡ tokens.now) }
+    {
+        let mut made = Tokens::with_capacity(alloc, tokens.len())?;
+        for token in tokens {
+            made.push(token.copy()?)?;
+        }
+        Ok(made)
     }
 
     /// Puts a token at the end.
@@ -113,10 +133,6 @@ impl Tokens {
     pub fn copy(&self) -> Result<Tokens, NoMemory>
         ensures { IfOk result (λ copied. copied ≡ self.now) }
     {
-        let mut items = Vec::new(*self.items.allocator());
-        for token in self.items.as_slice() {
-            items.push(token.copy()?)?;
-        }
-        Ok(Tokens { items })
+        Tokens::from_slice(*self.items.allocator(), self.items.as_slice())
     }
 }

@@ -14,7 +14,6 @@ use crate::within::Within;
 use mac_base::{Bytes, NoMemory};
 use pp_directives::Directive;
 use pp_tokens::{Line, Token, Tokens};
-use std::alloc::Global;
 
 /// The pragma `once`, alone.
 fn is_once_pragma(tokens: &[Token]) -> bool
@@ -47,17 +46,6 @@ fn follow_undef(so_far: Record, line: u64, name: &Option<Bytes>) -> Result<Recor
     }
 }
 
-/// The same tokens as a list of its own.
-pub fn copied(alloc: Global, tokens: &[Token]) -> Result<Tokens, NoMemory>
-    ensures { IfOk result (λ list. list ≡ tokens.now) }
-{
-    let mut items = Vec::new(alloc);
-    for token in tokens {
-        items.push(token.copy()?)?;
-    }
-    Ok(Tokens::from_vec(items))
-}
-
 /// A line of a taken group that is neither an inclusion nor a conditional directive.
 #[inline(never)]
 pub fn follow_directive(
@@ -73,7 +61,7 @@ pub fn follow_directive(
         Directive::Undef(name) => follow_undef(so_far, line.number, name),
         Directive::LineNumber => {
             let here = here_of(within, line)?;
-            let tokens = copied(so_far.alloc(), operands(line))?;
+            let tokens = Tokens::from_slice(so_far.alloc(), operands(line))?;
             follow_line(so_far, &here, &tokens)
         }
         Directive::Error => Err(PpKind::ErrorDirective),

@@ -11,7 +11,6 @@ ghost use Rattle.pp_unit.specs.Files.{inside, last_number};
 ghost use Rattle.pp_unit.specs.Recorded.{ComesTo};
 ghost use Rattle.pp_unit.specs.Stopping.{Given, Turned, is_include, is_text, IsFoundIn};
 
-use crate::direct::copied;
 use crate::fault::PpKind;
 use crate::header::HeaderName;
 use crate::header_name::header_named;
@@ -21,7 +20,7 @@ use crate::within::Within;
 use mac_base::{Bytes, Frame, Frames, NoMemory};
 use mac_io::{FileId, Headers, Located};
 use pp_directives::{Conditions, Directive, directive_of};
-use pp_tokens::Line;
+use pp_tokens::{Line, Tokens};
 
 /// What a line is.
 pub fn kind_of(line: &Line) -> Result<Directive, PpKind>
@@ -50,7 +49,7 @@ pub fn header_of(so_far: &Record, within: &Within, line: &Line) -> Result<Header
     ensures { ComesTo (NamesHeader (macros so_far.now) (here_of within.now line.now) (operands line.now)) result }
 {
     let here = here_of(within, line)?;
-    let tokens = copied(so_far.alloc(), operands(line))?;
+    let tokens = Tokens::from_slice(so_far.alloc(), operands(line))?;
     header_named(so_far, &here, &tokens)
 }
 

@@ -2,14 +2,13 @@ ghost use Rattle.std.specs.Prelude.{◌≡◌, IfOk};
 ghost use Rattle.pp_unit.specs.Recorded.{ComesTo};
 ghost use Rattle.pp_unit.specs.Questions.{operands, here_of, HasValue, AnswersBy};
 
-use crate::direct::copied;
 use crate::fault::{DirectiveFault, PpKind};
 use crate::record::Record;
 use crate::within::Within;
 use mac_base::NoMemory;
 use macro_expand::Here;
 use pp_directives::{Directive, evaluate};
-use pp_tokens::{Line, Token, Tokens};
+use pp_tokens::{Line, Token};
 
 /// The tokens behind the name of a directive.
 pub fn operands(line: &Line) -> &[Token]
@@ -33,7 +32,7 @@ pub fn here_of(within: &Within, line: &Line) -> Result<Here, NoMemory>
 }
 
 /// Whether the condition of `#if` or `#elif` holds.
-fn holds(so_far: &Record, here: &Here, tokens: &Tokens) -> Result<bool, PpKind>
+fn holds(so_far: &Record, here: &Here, tokens: &[Token]) -> Result<bool, PpKind>
     ensures { ComesTo (HasValue so_far.now here.now tokens.now) result }
 {
     let resolved = so_far.resolve(tokens)?;
@@ -54,8 +53,7 @@ pub fn ask(
     match directive {
         Directive::If | Directive::Elif => {
             let here = here_of(within, line)?;
-            let tokens = copied(so_far.alloc(), operands(line))?;
-            holds(so_far, &here, &tokens)
+            holds(so_far, &here, operands(line))
         }
         Directive::Ifdef(Some(name)) => Ok(so_far.is_defined(name.as_slice())),
         Directive::Ifndef(Some(name)) => Ok(!so_far.is_defined(name.as_slice())),

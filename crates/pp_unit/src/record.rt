@@ -21,8 +21,8 @@ use mac_base::{Bytes, Event, EventList, Events, Frames, NoMemory, Place};
 use mac_io::FileId;
 use macro_expand::{ExpandFault, Here, expand};
 use macro_table::Table;
-use pp_directives::{ExprFault, is_defined, resolve_defined};
-use pp_tokens::Tokens;
+use pp_directives::{ExprFault, is_defined, resolve_slice};
+use pp_tokens::{Token, Tokens};
 use std::alloc::Global;
 use std::marker::Model;
 
@@ -270,10 +270,10 @@ impl Record {
     }
 
     /// The tokens of a condition with each `defined` resolved.
-    pub fn resolve(&self, tokens: &Tokens) -> Result<Tokens, ExprFault>
+    pub fn resolve(&self, tokens: &[Token]) -> Result<Tokens, ExprFault>
         ensures { Answers ExprRanOut result (resolved (is_defined (table self.now)) tokens.now) }
     {
-        resolve_defined(self.alloc, tokens, &self.table)
+        resolve_slice(self.alloc, tokens, &self.table)
     }
 
     /// What tokens expand to.

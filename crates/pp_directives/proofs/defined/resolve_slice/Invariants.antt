@@ -2,7 +2,7 @@
 use Rattle.std.proofs.Common.{◌≡◌, length}
 use Rattle.pp_directives.specs.Defined.{is_defined, resolved}
 use Rattle.pp_directives.proofs.DefinedLemmas.{onto}
-use Rattle.pp_directives.proofs.defined.resolve_defined.Given as goal
+use Rattle.pp_directives.proofs.defined.resolve_slice.Given as goal
 
 abbrev pub invariant-loop-done : goal.invariant-loop-done
 invariant-loop-done l = onto l.done (resolved (is_defined l.table) l.left) ≡ resolved (is_defined l.table) l.tokens
