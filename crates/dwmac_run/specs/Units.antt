@@ -4,12 +4,13 @@ use Rattle.std.specs.List.{All}
 use Rattle.mac_io.specs.Files.{Files}
 use Rattle.import_graph.specs.Graph.{named}
 use Rattle.macro_query.specs.Limits.{most_report}
-use Rattle.macro_query.specs.Roots.{item_lines}
+use Rattle.mac_base.specs.ItemLines.{item_lines}
 use Rattle.pp_unit.specs.declared.spec.UnitSpec.{UnitSpec}
 use Rattle.pp_unit.specs.declared.fault.PpFault.{PpFault}
 use Rattle.pp_unit.specs.declared.fault.PpKind.{PpKind}
 use Rattle.pp_unit.specs.declared.fault.PpKind.TheVariants.{StoreFault, NoMemory}
-use Rattle.pp_unit.specs.Seen.{Seen, Marked, item_of}
+use Rattle.pp_unit.specs.Seen.{Seen, Marked}
+use Rattle.mac_base.specs.ItemLines.{item_of}
 use Rattle.mac_base.specs.declared.events.Event.{Event}
 use Rattle.pp_unit.specs.Files.{Stores}
 use Rattle.pp_unit.specs.Walk.{Walk}

@@ -1,10 +1,10 @@
 // What a translation unit comes to: its events as lines, or its first fault.
 ghost use Rattle.std.specs.Prelude.{◌≡◌, ◌↔◌, ◌≤◌, ◌<◌, ◌++◌, ℕ, List, length, codes, decimal, IfOk, OnOk, IfSome};
 ghost use Rattle.mac_io.specs.Causes.{HasCause};
-ghost use Rattle.macro_table.specs.Items.{renamed};
-ghost use Rattle.import_graph.specs.Numbers.{path_in};
-ghost use Rattle.macro_query.specs.Roots.{item_line};
-ghost use Rattle.pp_unit.specs.Seen.{item_of};
+ghost use Rattle.mac_base.specs.Items.{renamed};
+ghost use Rattle.mac_base.specs.ItemLines.{path_in};
+ghost use Rattle.mac_base.specs.ItemLines.{item_line};
+ghost use Rattle.mac_base.specs.ItemLines.{item_of};
 ghost use Rattle.dwmac_run.specs.Units.{UnitAnswer, FaultSays, event_lines, reported};
 ghost use Rattle.dwmac_run.specs.Outcome.{answer_of, HasFailed, IsText};
 

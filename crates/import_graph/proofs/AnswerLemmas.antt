@@ -5,9 +5,9 @@ use Rattle.std.proofs.lemmas.List.{length-map}
 use Rattle.mac_base.specs.SectionBytes.{SectionBytes}
 use Rattle.info_roots.specs.declared.root.Root.{Root}
 use Rattle.unit_header.specs.declared.fault.UnitKind.TheVariants.{TooManyEntries}
-use Rattle.macro_table.specs.Items.{Item, Define, Undef, Start, End, renamed}
+use Rattle.mac_base.specs.Items.{Item, Define, Undef, Start, End, renamed}
 use Rattle.import_graph.specs.declared.fault.FileFault.{FileFault}
-use Rattle.import_graph.specs.Numbers.{path_in}
+use Rattle.mac_base.specs.ItemLines.{path_in}
 use Rattle.import_graph.specs.Faults.{fault_at}
 use Rattle.import_graph.specs.Nodes.{AreNumbered}
 use Rattle.import_graph.specs.Splice.{RootSplice}

@@ -5,12 +5,13 @@ use Rattle.std.proofs.Math.Seq.{get_or-append_seam}
 use Rattle.std.proofs.lemmas.List.{append-nil, get_or_append_left, get_or_past, map-append, length-map}
 use Rattle.std.proofs.lemmas.List.Concat.{flat_map-append}
 use Rattle.std.proofs.lemmas.Option.{unwrap_or-slice_get, slice_get-map}
-use Rattle.macro_table.specs.Items.{Item, Define, Undef, Start, End, renamed}
+use Rattle.mac_base.specs.Items.{Item, Define, Undef, Start, End, renamed}
 use Rattle.import_graph.specs.declared.node.Link.{Link}
 use Rattle.import_graph.specs.declared.node.Link.TheVariants.{Own, Import}
 use Rattle.import_graph.specs.declared.node.Node.{Node}
 use Rattle.import_graph.specs.Graph.{named}
-use Rattle.import_graph.specs.Numbers.{path_in, item_of}
+use Rattle.import_graph.specs.Numbers.{item_of}
+use Rattle.mac_base.specs.ItemLines.{path_in}
 use Rattle.import_graph.specs.Nodes.{items_at, link_items, items_of, all_items, root_items, count_at, ImportBelow, AreOrdered, AreNumbered}
 
 pub at_kept : {A : Type 0} (xs ys : List A) (i : ℕ) (d : A) → i < length xs → unwrap_or (slice_get (xs ++ ys) i) d ≡ unwrap_or (slice_get xs i) d

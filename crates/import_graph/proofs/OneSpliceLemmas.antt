@@ -6,7 +6,7 @@ use Rattle.unit_header.specs.Header.{Header}
 use Rattle.macro_opcodes.specs.Entry.{Entry}
 use Rattle.macro_opcodes.specs.Spells.{Spells}
 use Rattle.macro_opcodes.proofs.UnitLemmas.{one_unit}
-use Rattle.macro_table.specs.Items.{Item}
+use Rattle.mac_base.specs.Items.{Item}
 use Rattle.import_graph.specs.Meaning.{Lent, Meaning, Plain, Imports, Nothing, meaning}
 use Rattle.import_graph.specs.Units.{unit_paths, lent_by}
 use Rattle.import_graph.specs.Splice.{Splice, Spliced, Unit as Whole, None, Own, Silent, Import, RootSplice}

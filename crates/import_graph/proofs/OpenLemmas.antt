@@ -7,7 +7,7 @@ use Rattle.std.specs.BTreeMap.{is_at}
 use Rattle.mac_base.specs.SectionBytes.{SectionBytes}
 use Rattle.mac_base.specs.Input.{Input}
 use Rattle.unit_header.specs.Header.{header_of}
-use Rattle.macro_table.specs.Items.{Item}
+use Rattle.mac_base.specs.Items.{Item}
 use Rattle.import_graph.specs.declared.node.Node.{Node}
 use Rattle.import_graph.specs.declared.node.NodeId.{NodeId}
 use Rattle.import_graph.specs.declared.unit.OpenUnit.{OpenUnit}

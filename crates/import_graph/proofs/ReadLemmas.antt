@@ -13,7 +13,7 @@ use Rattle.macro_opcodes.specs.Entry.{Entry}
 use Rattle.macro_opcodes.specs.Reading.{entry_at}
 use Rattle.macro_opcodes.proofs.EntryLemmas.{entry_takes}
 use Rattle.macro_opcodes.proofs.UnitLemmas.{are_more, unit_spelled}
-use Rattle.macro_table.specs.Items.{Item}
+use Rattle.mac_base.specs.Items.{Item}
 use Rattle.import_graph.specs.declared.meaning.FileRange.{FileRange}
 use Rattle.import_graph.specs.declared.node.Link.{Link}
 use Rattle.import_graph.specs.declared.node.Link.TheVariants.{Own, Import}

@@ -1,6 +1,6 @@
 -- How what is left changes where an entry is taken, a unit is entered, and a unit is left.
 use Rattle.std.proofs.Common.{◌≡◌, ℕ, zero, suc, ◌+◌, List, [], ◌∷◌, ◌++◌, length, drop, slice_get, unwrap_or, Some, None, refl, ap, sym, ◌∙◌, arith, append_assoc, append-nil, add-one}
-use Rattle.macro_table.specs.Items.{Item}
+use Rattle.mac_base.specs.Items.{Item}
 use Rattle.import_graph.specs.declared.node.Link.{Link}
 use Rattle.import_graph.specs.declared.node.Link.TheVariants.{Own, Import}
 use Rattle.import_graph.specs.declared.node.Node.{Node}

@@ -14,7 +14,7 @@ use Rattle.unit_header.specs.Header.{Header}
 use Rattle.unit_header.specs.Reading.{header_at}
 use Rattle.macro_opcodes.specs.Entry.{Operand, None as NoOperand, File, Text, Str, Index, Macro, SupStr, SupMacro, Other, Entry}
 use Rattle.macro_opcodes.specs.Reading.{entry_at}
-use Rattle.macro_table.specs.Items.{Item, Define, Undef, Start}
+use Rattle.mac_base.specs.Items.{Item, Define, Undef, Start}
 use Rattle.import_graph.specs.declared.fault.FileFault.{FileFault}
 use Rattle.import_graph.specs.Faults.{fault_at, entry_part, unit_part}
 use Rattle.import_graph.specs.Meaning.{Lent, Meaning, Plain, Imports, Nothing, meaning, meaning_by, with_text, text_in, path_of, target_of}

@@ -2,7 +2,7 @@
 use Rattle.std.proofs.Common.{◌≡◌, ℕ, List, [], ◌∷◌, ◌++◌, Option, Ok, refl, sym, subst, append_assoc, append-nil}
 use Rattle.mac_base.specs.SectionBytes.{SectionBytes}
 use Rattle.macro_opcodes.specs.Entry.{Entry}
-use Rattle.macro_table.specs.Items.{Item}
+use Rattle.mac_base.specs.Items.{Item}
 use Rattle.import_graph.specs.Meaning.{Lent, Plain, Imports, Nothing, meaning}
 use Rattle.import_graph.specs.Progress.{Begins}
 use Rattle.import_graph.specs.Splice.{Splice, Spliced, None, Own, Silent, Import}

@@ -11,7 +11,7 @@ use Rattle.unit_header.specs.declared.fault.UnitKind.{UnitKind}
 use Rattle.unit_header.specs.declared.fault.UnitKind.TheVariants.{ImportCycle, StartWithoutEnd}
 use Rattle.macro_opcodes.specs.Entry.{Entry}
 use Rattle.macro_opcodes.specs.Reading.{entry_at}
-use Rattle.macro_table.specs.Items.{Item}
+use Rattle.mac_base.specs.Items.{Item}
 use Rattle.import_graph.specs.declared.fault.FileFault.{FileFault}
 use Rattle.import_graph.specs.declared.meaning.FileRange.{FileRange}
 use Rattle.import_graph.specs.declared.node.Link.{Link}

@@ -13,7 +13,7 @@ use Rattle.macro_opcodes.specs.Spells.{AreEntries}
 use Rattle.macro_opcodes.specs.Reading.{entry_at}
 use Rattle.macro_opcodes.proofs.EntryLemmas.{entry_takes}
 use Rattle.macro_opcodes.proofs.UnitLemmas.{unit_spelled}
-use Rattle.macro_table.specs.Items.{Item}
+use Rattle.mac_base.specs.Items.{Item}
 use Rattle.import_graph.specs.declared.fault.FileFault.{FileFault}
 use Rattle.import_graph.specs.Faults.{fault_at}
 use Rattle.import_graph.specs.Meaning.{Lent, Meaning, Plain, Imports, Nothing, meaning}

@@ -4,13 +4,14 @@ use Rattle.mac_base.specs.declared.memory.NoMemory.{NoMemory}
 use Rattle.mac_base.specs.SectionBytes.{SectionBytes}
 use Rattle.info_roots.specs.declared.root.Root.{Root}
 use Rattle.unit_header.specs.declared.fault.UnitKind.TheVariants.{TooManyEntries}
-use Rattle.macro_table.specs.Items.{Item, renamed}
+use Rattle.mac_base.specs.Items.{Item, renamed}
 use Rattle.import_graph.specs.declared.fault.FileFault.{FileFault}
 use Rattle.import_graph.specs.Faults.{fault_at}
 use Rattle.import_graph.specs.Splice.{RootSplice}
 use Rattle.import_graph.specs.Walk.{RootWalk, HasNoFault}
 use Rattle.import_graph.specs.declared.spliced.Spliced.{Spliced}
-use Rattle.import_graph.specs.Numbers.{path_in, item_of}
+use Rattle.import_graph.specs.Numbers.{item_of}
+use Rattle.mac_base.specs.ItemLines.{path_in}
 
 -- the most items that a root may stand for
 abbrev pub most_items : ℕ

@@ -10,7 +10,7 @@ use Rattle.unit_header.specs.Opcodes.{opcode_by_byte}
 use Rattle.unit_header.specs.declared.fault.UnitKind.{UnitKind}
 use Rattle.unit_header.specs.declared.fault.UnitKind.TheVariants.{StrRange, NoStrBase, StrxRange, NoLineTable, FileIndex, ImportRange, Supplementary}
 use Rattle.macro_opcodes.specs.Entry.{Operand, File, Text, Str, Index, Macro, Entry}
-use Rattle.macro_table.specs.Items.{Item, Define, Undef, Start, End}
+use Rattle.mac_base.specs.Items.{Item, Define, Undef, Start, End}
 
 -- What a root lends to all units that it reaches: the paths of its line table, if it names one, where its string offsets begin, and whether these have 8 bytes.
 pub record Lent : Type 0 where

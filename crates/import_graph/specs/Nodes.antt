@@ -2,7 +2,7 @@
 use Rattle.std.specs.Prelude.{ℕ, ◌+◌, ◌-◌, ◌<◌, List, [], ◌∷◌, ◌++◌, length, slice_get, unwrap_or}
 use Rattle.std.specs.List.{flat_map}
 use Rattle.std.specs.Option.{option_map}
-use Rattle.macro_table.specs.Items.{Item, Define, Undef, Start, End}
+use Rattle.mac_base.specs.Items.{Item, Define, Undef, Start, End}
 use Rattle.import_graph.specs.declared.meaning.Meaning.{Meaning as HeldMeaning}
 use Rattle.import_graph.specs.declared.meaning.Meaning.TheVariants.{Plain as HeldPlain, Imports as HeldImports, Nothing as HeldNothing}
 use Rattle.import_graph.specs.declared.node.Link.{Link}

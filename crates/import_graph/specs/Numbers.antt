@@ -1,7 +1,7 @@
 -- How files are named by the numbers of their paths, and how a call answers what is looked up.
 use Rattle.std.specs.Prelude.{◌≡◌, ℕ, ◌-◌, ◌≤◌, ◌<◌, List, [], take, drop, length, slice_get, unwrap_or, Option, Some, None, Result, Ok, Err}
 use Rattle.std.specs.Option.{option_map}
-use Rattle.macro_table.specs.Items.{Item, Define, Undef, Start, End, renamed}
+use Rattle.mac_base.specs.Items.{Item, Define, Undef, Start, End, renamed}
 use Rattle.import_graph.specs.declared.spliced.Spliced.{Spliced as HeldSpliced}
 use Rattle.import_graph.specs.declared.spliced.Spliced.TheVariants.{Define as HeldDefine, Undef as HeldUndef, Start as HeldStart, End as HeldEnd}
 use Rattle.mac_base.specs.SectionBytes.{SectionBytes}
@@ -10,16 +10,13 @@ use Rattle.import_graph.specs.declared.meaning.Lookup.{Lookup}
 use Rattle.import_graph.specs.declared.meaning.Meaning.{Meaning as HeldMeaning}
 use Rattle.import_graph.specs.declared.meaning.Meaning.TheVariants.{Plain as HeldPlain, Imports as HeldImports, Nothing as HeldNothing}
 use Rattle.import_graph.specs.Meaning.{Lent, offsets_of, Meaning, Plain, Imports, Nothing}
+use Rattle.mac_base.specs.ItemLines.{path_in}
 
 -- an import names a unit inside a section of n bytes
 abbrev pub IsInside : ℕ → HeldMeaning → Type 0
 IsInside n (HeldPlain spliced) = Unit {0}
 IsInside n (HeldImports at) = at < n
 IsInside n HeldNothing = Unit {0}
-
--- the path of a number
-abbrev pub path_in : List (List ℕ) → ℕ → List ℕ
-path_in paths number = unwrap_or (slice_get paths number) []
 
 -- an item without where it lies in memory
 abbrev pub item_of : HeldSpliced → Item ℕ

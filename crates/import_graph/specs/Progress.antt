@@ -13,7 +13,7 @@ use Rattle.unit_header.specs.Reading.{header_at}
 use Rattle.macro_opcodes.specs.Entry.{Entry}
 use Rattle.macro_opcodes.specs.Spells.{AreEntries}
 use Rattle.macro_opcodes.specs.Reading.{entry_at}
-use Rattle.macro_table.specs.Items.{Item}
+use Rattle.mac_base.specs.Items.{Item}
 use Rattle.import_graph.specs.declared.fault.FileFault.{FileFault}
 use Rattle.import_graph.specs.declared.fault.FileFault.TheVariants.{NoMemory as RanOut}
 use Rattle.import_graph.specs.declared.meaning.FileRange.{FileRange}

@@ -1,7 +1,7 @@
 -- What is left of units that are open.
 use Rattle.std.specs.Prelude.{◌≡◌, ℕ, List, [], ◌∷◌, ◌++◌, drop, slice_get, Option, Some, None, Result, Ok, Err}
 use Rattle.mac_base.specs.declared.memory.NoMemory.{NoMemory}
-use Rattle.macro_table.specs.Items.{Item}
+use Rattle.mac_base.specs.Items.{Item}
 use Rattle.import_graph.specs.declared.node.Link.{Link}
 use Rattle.import_graph.specs.declared.node.Node.{Node}
 use Rattle.import_graph.specs.declared.rest.Place.{Place}

@@ -5,7 +5,7 @@ use Rattle.info_roots.specs.declared.root.Root.{Root}
 use Rattle.unit_header.specs.Header.{Header}
 use Rattle.macro_opcodes.specs.Entry.{Entry}
 use Rattle.macro_opcodes.specs.Spells.{Spells}
-use Rattle.macro_table.specs.Items.{Item}
+use Rattle.mac_base.specs.Items.{Item}
 use Rattle.import_graph.specs.Meaning.{Lent, Plain, Imports, Nothing, meaning}
 use Rattle.import_graph.specs.Units.{unit_paths, lent_by}
 

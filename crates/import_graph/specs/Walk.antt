@@ -8,7 +8,7 @@ use Rattle.unit_header.specs.declared.fault.UnitKind.{UnitKind}
 use Rattle.unit_header.specs.declared.fault.UnitKind.TheVariants.{ImportCycle, EndWithoutStart, StartWithoutEnd}
 use Rattle.macro_opcodes.specs.Entry.{Entry}
 use Rattle.macro_opcodes.specs.Reading.{entry_at}
-use Rattle.macro_table.specs.Items.{Item, Define, Undef, Start, End}
+use Rattle.mac_base.specs.Items.{Item, Define, Undef, Start, End}
 use Rattle.import_graph.specs.declared.fault.FileFault.{FileFault}
 use Rattle.import_graph.specs.Faults.{fault_at, entry_part, unit_part}
 use Rattle.import_graph.specs.Meaning.{Lent, Meaning, Plain, Imports, Nothing, meaning}

@@ -22,7 +22,7 @@ pub struct Entries<'g> {
 
 impl<'g> Model for Entries<'g> {
     ghost use Rattle.std.specs.Prelude.{◌≡◌, ℕ, List, length};
-    ghost use Rattle.macro_table.specs.Items.{Item};
+    ghost use Rattle.mac_base.specs.Items.{Item};
     ghost use Rattle.import_graph.specs.Nodes.{AreOrdered};
     ghost use Rattle.import_graph.specs.Rest.{rest_items};
 

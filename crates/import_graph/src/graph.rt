@@ -1,7 +1,7 @@
 ghost use Rattle.std.specs.Prelude.{◌≡◌, ◌≤◌, ◌<◌, ◌^◌, length, IfOk};
 ghost use Rattle.import_graph.specs.Graph.{most_items};
 ghost use Rattle.import_graph.specs.Nodes.{AreOrdered, AreNumbered, root_items};
-ghost use Rattle.import_graph.specs.Numbers.{path_in};
+ghost use Rattle.mac_base.specs.ItemLines.{path_in};
 
 use crate::entries::Entries;
 use crate::node::{Node, NodeId};

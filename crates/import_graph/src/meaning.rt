@@ -3,7 +3,8 @@ ghost use Rattle.string_sections.specs.Strings.{string_of};
 ghost use Rattle.mac_base.specs.SectionBytes.{SectionBytes};
 ghost use Rattle.macro_opcodes.specs.Entry.{operand_of, entry_of};
 ghost use Rattle.import_graph.specs.Meaning.{Lent, text_of, path_of, string_found, target_of, meaning};
-ghost use Rattle.import_graph.specs.Numbers.{IsInside, IsLookup, Says, Fits, path_in, paths_of, meaning_of};
+ghost use Rattle.import_graph.specs.Numbers.{IsInside, IsLookup, Says, Fits, paths_of, meaning_of};
+ghost use Rattle.mac_base.specs.ItemLines.{path_in};
 ghost use Rattle.import_graph.specs.Nodes.{IsNumbered};
 
 use crate::spliced::Spliced;

@@ -8,3 +8,6 @@ pub mod Laws
 pub mod Extents
 pub mod SectionBytes
 pub mod Names
+pub mod Items
+pub mod ItemLines
+pub mod Answers

@@ -4,16 +4,18 @@ use Rattle.std.proofs.lemmas.List.{append-nil, flat_map_more, map-append, length
 use Rattle.std.specs.Prelude.{IsErrAnd}
 use Rattle.mac_base.specs.SectionBytes.{SectionBytes}
 use Rattle.info_roots.specs.declared.root.Root.{Root}
-use Rattle.macro_table.specs.Items.{Item, renamed}
+use Rattle.mac_base.specs.Items.{Item, renamed}
 use Rattle.import_graph.specs.declared.fault.FileFault.{FileFault}
 use Rattle.import_graph.specs.declared.spliced.Spliced.{Spliced}
-use Rattle.import_graph.specs.Numbers.{path_in, item_of, named_item}
+use Rattle.import_graph.specs.Numbers.{item_of, named_item}
+use Rattle.mac_base.specs.ItemLines.{path_in}
 use Rattle.import_graph.specs.Graph.{GraphValue, IsGraphOf, most_items, named, NextSays}
 use Rattle.mac_base.specs.declared.memory.NoMemory.{NoMemory}
 use Rattle.macro_query.specs.declared.fault.QueryFault.{QueryFault}
 use Rattle.macro_query.specs.declared.fault.QueryFault.TheVariants.{NoMemory as RanOut}
 use Rattle.macro_query.specs.Limits.{Answers, Tells, limited}
-use Rattle.macro_query.specs.Roots.{file_fault, RootSays, root_line, root_lines, item_line, item_lines, joined, DumpOf}
+use Rattle.macro_query.specs.Roots.{file_fault, RootSays, root_line, root_lines, joined, DumpOf}
+use Rattle.mac_base.specs.ItemLines.{item_line, item_lines}
 use Rattle.macro_query.proofs.QueryLemmas.{Said, handed_on}
 
 -- whatever the roots that are left say, with the text so far it is what all say

@@ -12,7 +12,7 @@ use Rattle.macro_table.specs.Tables.{EntryValue, TableOf, renamed_value}
 use Rattle.macro_table.specs.Texts.{tokens_of, def_of_text}
 use Rattle.macro_table.proofs.TextLemmas.{tokens_given, fault_given}
 use Rattle.import_graph.specs.Graph.{GraphValue, named}
-use Rattle.import_graph.specs.Numbers.{path_in}
+use Rattle.mac_base.specs.ItemLines.{path_in}
 use Rattle.position_table.specs.declared.spot.Spot.{Spot}
 use Rattle.macro_expand.specs.declared.here.Here.{Here}
 use Rattle.macro_expand.specs.declared.fault.ExpandFault.{ExpandFault}

@@ -5,12 +5,12 @@ use Rattle.std.specs.Ordering.{nat_cmp, is_lt, eq_by_cmp}
 use Rattle.std.specs.Cmp.Lexicographic.{slice_cmp, nat_list_cmp_total}
 use Rattle.std.specs.FinMap as finite
 use Rattle.std.specs.FinMap.Entries.{below_all}
-use Rattle.macro_table.specs.Items.{Item}
+use Rattle.mac_base.specs.Items.{Item}
 use Rattle.macro_table.specs.Tables.{renamed_value}
 use Rattle.macro_table.specs.FileTable.{prefix, table_of}
 use Rattle.macro_table.proofs.FileTableLemmas.{table_has_last_word}
 use Rattle.macro_table.proofs.RenamedLemmas.{same_prefix, same_definition}
-use Rattle.import_graph.specs.Numbers.{path_in}
+use Rattle.mac_base.specs.ItemLines.{path_in}
 use Rattle.import_graph.specs.Graph.{named}
 use Rattle.macro_query.specs.Scopes.{IsNamed}
 

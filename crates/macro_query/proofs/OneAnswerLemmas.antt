@@ -5,7 +5,7 @@ use Rattle.mac_base.specs.SectionBytes.{SectionBytes}
 use Rattle.info_roots.specs.declared.fault.InfoFault.{InfoFault}
 use Rattle.info_roots.specs.declared.root.Root.{Root}
 use Rattle.info_roots.specs.Roots.{roots_in}
-use Rattle.macro_table.specs.Items.{Item}
+use Rattle.mac_base.specs.Items.{Item}
 use Rattle.import_graph.specs.declared.fault.FileFault.{FileFault}
 use Rattle.import_graph.specs.Walk.{RootWalk, HasNoFault}
 use Rattle.import_graph.specs.Graph.{GraphValue, IsGraphOf, IsFirstFault, named}

@@ -7,12 +7,12 @@ use Rattle.std.proofs.lemmas.Option.{slice_get-map}
 use Rattle.std.specs.Option.{option_map}
 use Rattle.mac_base.specs.SectionBytes.{SectionBytes}
 use Rattle.info_roots.specs.declared.root.Root.{Root}
-use Rattle.macro_table.specs.Items.{Item, Define, Undef, Start, End, renamed}
+use Rattle.mac_base.specs.Items.{Item, Define, Undef, Start, End, renamed}
 use Rattle.macro_table.specs.Tables.{TableOf}
 use Rattle.macro_table.specs.FileTable.{instance, prefix, table_of}
 use Rattle.macro_table.proofs.RenamedLemmas.{same_instance}
 use Rattle.import_graph.specs.declared.fault.FileFault.{FileFault}
-use Rattle.import_graph.specs.Numbers.{path_in}
+use Rattle.mac_base.specs.ItemLines.{path_in}
 use Rattle.import_graph.specs.Graph.{GraphValue, IsGraphOf, IsFirstFault, named}
 use Rattle.position_table.specs.declared.position.Position.{Position as APosition}
 use Rattle.position_table.specs.declared.position.Position.TheVariants.{Chain as AtChain, Named as AtNamed}

@@ -8,7 +8,7 @@ use Rattle.std.specs.FinMap as finite
 use Rattle.mac_base.specs.declared.frames.Frame.{Frame}
 use Rattle.macro_table.specs.Tables.{EntryValue, TableOf, entry_value, renamed_value}
 use Rattle.macro_table.specs.declared.entry.Entry.{Entry}
-use Rattle.import_graph.specs.Numbers.{path_in}
+use Rattle.mac_base.specs.ItemLines.{path_in}
 use Rattle.macro_query.specs.declared.fault.QueryFault.{QueryFault}
 use Rattle.macro_query.specs.declared.fault.QueryFault.TheVariants.{NoMemory as RanOut}
 use Rattle.macro_query.specs.Limits.{Answers, Tells, limited}

@@ -6,7 +6,7 @@ use Rattle.mac_base.specs.SectionBytes.{SectionBytes}
 use Rattle.info_roots.specs.declared.fault.InfoFault.{InfoFault}
 use Rattle.info_roots.specs.declared.root.Root.{Root}
 use Rattle.info_roots.specs.Roots.{roots_in}
-use Rattle.macro_table.specs.Items.{Item, Define, Undef, Start, End}
+use Rattle.mac_base.specs.Items.{Item, Define, Undef, Start, End}
 use Rattle.import_graph.specs.declared.fault.FileFault.{FileFault}
 use Rattle.import_graph.specs.declared.fault.FileFault.TheVariants.{Line as InLine, Unit as InUnit, NoMemory as FileRanOut}
 use Rattle.import_graph.specs.Splice.{RootSplice}
@@ -14,6 +14,7 @@ use Rattle.import_graph.specs.Walk.{HasNoFault}
 use Rattle.import_graph.specs.Graph.{most_items, IsFirstFault}
 use Rattle.macro_query.specs.declared.fault.QueryFault.{QueryFault}
 use Rattle.macro_query.specs.declared.fault.QueryFault.TheVariants.{Info, Line, Unit as BadUnit, NoMemory as RanOut}
+use Rattle.mac_base.specs.ItemLines.{item_lines}
 
 -- how the fault of a root is told
 abbrev pub file_fault : FileFault → QueryFault
@@ -34,17 +35,6 @@ ByRoots (Err fault) Says said = said ≡ Err (Info fault)
 -- the same of sections
 abbrev pub RootsSay : {A : Type 0} → (SectionBytes → List Root → Result A QueryFault → Type 0) → SectionBytes → Result A QueryFault → Type 0
 RootsSay Says s said = ByRoots (roots_in s) (Says s) said
-
--- the line of an entry
-abbrev pub item_line : Item (List ℕ) → List ℕ
-item_line (Define line text) = codes "define" ++ codes " " ++ decimal line ++ codes " " ++ text ++ codes "\n"
-item_line (Undef line name) = codes "undef" ++ codes " " ++ decimal line ++ codes " " ++ name ++ codes "\n"
-item_line (Start line path) = codes "start" ++ codes " " ++ decimal line ++ codes " " ++ path ++ codes "\n"
-item_line End = codes "end\n"
-
--- the lines of entries
-abbrev pub item_lines : List (Item (List ℕ)) → List ℕ
-item_lines items = flat_map item_line items
 
 -- the line of the root with this number
 abbrev pub root_line : ℕ → List ℕ → List ℕ

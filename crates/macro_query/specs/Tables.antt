@@ -5,7 +5,7 @@ use Rattle.std.specs.FinMap as finite
 use Rattle.mac_base.specs.declared.frames.Frame.{Frame}
 use Rattle.macro_table.specs.declared.entry.Entry.{Entry}
 use Rattle.macro_table.specs.Tables.{EntryValue, TableOf}
-use Rattle.import_graph.specs.Numbers.{path_in}
+use Rattle.mac_base.specs.ItemLines.{path_in}
 
 -- the path of the innermost of these files, the outermost first
 abbrev pub innermost : List (List ℕ × ℕ) → List ℕ

@@ -1,12 +1,13 @@
 ghost use Rattle.std.specs.Prelude.{◌≡◌, ◌⊎◌, ◌++◌, List, ℕ, codes, decimal, IfErr, OnOk, Ok, Err};
 ghost use Rattle.mac_base.specs.SectionBytes.{bytes_of};
-ghost use Rattle.macro_table.specs.Items.{Item};
+ghost use Rattle.mac_base.specs.Items.{Item};
 ghost use Rattle.import_graph.specs.declared.fault.FileFault.{FileFault};
 ghost use Rattle.import_graph.specs.Numbers.{named_item};
 ghost use Rattle.import_graph.specs.Graph.{named};
 ghost use Rattle.macro_query.specs.declared.fault.QueryFault.TheVariants.{NoMemory as RanOut};
 ghost use Rattle.macro_query.specs.Limits.{Answers, Tells};
-ghost use Rattle.macro_query.specs.Roots.{file_fault, RootSays, RootsSay, DumpOf, item_line, item_lines, root_line, root_lines};
+ghost use Rattle.macro_query.specs.Roots.{file_fault, RootSays, RootsSay, DumpOf, root_line, root_lines};
+ghost use Rattle.mac_base.specs.ItemLines.{item_line, item_lines};
 ghost use Rattle.macro_query.specs.Queries.{DumpSays};
 
 use crate::fault::QueryFault;

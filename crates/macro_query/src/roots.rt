@@ -3,7 +3,7 @@ ghost use Rattle.mac_base.specs.SectionBytes.{bytes_of};
 ghost use Rattle.info_roots.specs.declared.fault.InfoFault.{InfoFault};
 ghost use Rattle.info_roots.specs.Roots.{roots_in};
 ghost use Rattle.import_graph.specs.declared.fault.FileFault.{FileFault};
-ghost use Rattle.import_graph.specs.Numbers.{path_in};
+ghost use Rattle.mac_base.specs.ItemLines.{path_in};
 ghost use Rattle.import_graph.specs.Graph.{IsGraphOf, IsFirstFault};
 ghost use Rattle.macro_query.specs.declared.fault.QueryFault.TheVariants.{Info as BadInfo, NoMemory as RanOut};
 ghost use Rattle.macro_query.specs.Roots.{file_fault};

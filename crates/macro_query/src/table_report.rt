@@ -2,7 +2,7 @@ ghost use Rattle.std.specs.Prelude.{◌≡◌, ◌⊎◌, ◌++◌, List, ℕ, c
 ghost use Rattle.std.specs.Option.{option_map, option_copied};
 ghost use Rattle.std.specs.FinMap as finite;
 ghost use Rattle.macro_table.specs.Tables.{entry_value, renamed_value};
-ghost use Rattle.import_graph.specs.Numbers.{path_in};
+ghost use Rattle.mac_base.specs.ItemLines.{path_in};
 ghost use Rattle.macro_query.specs.declared.fault.QueryFault.TheVariants.{NoMemory as RanOut};
 ghost use Rattle.macro_query.specs.Limits.{Answers, Tells, limited};
 ghost use Rattle.macro_query.specs.Tables.{info_by, list_line, list_text, define_line, innermost, inclusions, named_frame, found_text};

@@ -1,7 +1,7 @@
 -- The definitions on two small units.
 use Rattle.std.proofs.Common.{◌≡◌, ℕ, List, [], ◌∷◌, Option, Some, None, Ok, Err, refl}
 use Rattle.macro_table.specs.Tables.{EntryValue}
-use Rattle.macro_table.specs.Items.{Item, Define, Undef, Start, End}
+use Rattle.mac_base.specs.Items.{Item, Define, Undef, Start, End}
 use Rattle.macro_table.specs.FileTable.{instance, prefix, definition}
 
 -- 100 stands for m.c and 101 for m.h: m.c includes m.h in line 2, which defines A as 1 in line 1; line 3 of m.c undefines A

@@ -9,7 +9,7 @@ use Rattle.std.specs.Cmp.Lexicographic.{slice_cmp, nat_list_cmp_total}
 use Rattle.std.specs.FinMap as finite
 use Rattle.mac_base.specs.Names.{name_of}
 use Rattle.macro_table.specs.Tables.{EntryValue, TableOf}
-use Rattle.macro_table.specs.Items.{Item, Define, Undef, Start, End}
+use Rattle.mac_base.specs.Items.{Item, Define, Undef, Start, End}
 use Rattle.macro_table.specs.FileTable.{open_behind, says, last_said, definition, changed, table_behind, table_of}
 
 module _ {P : Type 0} where

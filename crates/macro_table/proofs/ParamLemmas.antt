@@ -16,7 +16,7 @@ use lib.Chars.{codes}
 use Rattle.mac_base.specs.Input.{◌>>=◌}
 use Rattle.macro_table.specs.declared.fault.DefFault.{DefFault}
 use Rattle.macro_table.specs.declared.fault.DefFault.TheVariants.{NoMemory as RanOut}
-use Rattle.macro_table.specs.Answers.{Answers}
+use Rattle.mac_base.specs.Answers.{Answers}
 use Rattle.macro_table.specs.Definitions.{ParamList, last_passes, DefValue, is_spelled, has_list, unless, closed, param_fault, params_from, param_list, function_like, object_like, checked, def_behind}
 use Rattle.macro_table.specs.Params.{AreKnown}
 

@@ -7,7 +7,7 @@ use Rattle.std.specs.List.{prefix_len}
 use Rattle.std.specs.Str.{bytes_eq}
 use Rattle.mac_base.specs.Names.{name_of}
 use Rattle.macro_table.specs.Tables.{EntryValue, renamed_value}
-use Rattle.macro_table.specs.Items.{Item, Define, Undef, Start, End, renamed, is_start, starts_at, ends_or_reaches, depth_behind, first_inside}
+use Rattle.mac_base.specs.Items.{Item, Define, Undef, Start, End, renamed, is_start, starts_at, ends_or_reaches, depth_behind, first_inside}
 use Rattle.macro_table.specs.FileTable.{behind, levels, instance, prefix, open_behind, says, last_said, definition}
 
 or_map : {A B : Type 0} (f : A → B) (o p : Option A) → option_or (option_map f o) (option_map f p) ≡ option_map f (option_or o p)

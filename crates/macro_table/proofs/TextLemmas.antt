@@ -19,7 +19,7 @@ use Rattle.macro_table.specs.declared.fault.DefFault.TheVariants.{NoName, Reserv
 use Rattle.macro_table.specs.declared.fault.DefFault.TheVariants.{NoMemory as DefRanOut}
 use Rattle.macro_table.specs.declared.fault.TextFault.TheVariants.{Def}
 use Rattle.macro_table.specs.declared.fault.TextFault.TheVariants.{NoMemory as RanOut}
-use Rattle.macro_table.specs.Answers.{IsFaultOf}
+use Rattle.mac_base.specs.Answers.{IsFaultOf}
 use Rattle.macro_table.specs.Faults.{lex_fault, def_fault}
 use Rattle.macro_table.specs.Definitions.{DefValue, def_of}
 use Rattle.macro_table.specs.Texts.{page_behind, page_of, page_tokens, tokens_unless, tokens_of, as_text, def_of_tokens, def_of_text}

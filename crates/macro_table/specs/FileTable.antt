@@ -6,7 +6,7 @@ use Rattle.std.specs.FinMap as finite
 use Rattle.mac_base.specs.Input.{◌>>=◌}
 use Rattle.mac_base.specs.Names.{name_of}
 use Rattle.macro_table.specs.Tables.{EntryValue, TableOf}
-use Rattle.macro_table.specs.Items.{Item, Define, Undef, Start, End, is_start, starts_at, ends_or_reaches, first_inside}
+use Rattle.mac_base.specs.Items.{Item, Define, Undef, Start, End, is_start, starts_at, ends_or_reaches, first_inside}
 
 -- the entries behind the one that begins a file
 abbrev pub behind : {P : Type 0} → List (Item P) → ℕ → List (Item P)

@@ -3,7 +3,7 @@ use Rattle.std.specs.Prelude.{◌≡◌, ℕ, List, map}
 use Rattle.std.specs.Option.{option_map}
 use Rattle.std.specs.FinMap as finite
 use Rattle.macro_table.specs.Tables.{renamed_value}
-use Rattle.macro_table.specs.Items.{Item, renamed}
+use Rattle.mac_base.specs.Items.{Item, renamed}
 use Rattle.macro_table.specs.FileTable.{instance, prefix, definition, table_of}
 
 -- the table of some entries has for each name what the last entry says of it that defines or undefines it

@@ -1,9 +1,7 @@
 pub mod Tables
 pub mod Codes
-pub mod Items
 pub mod FileTable
 pub mod Laws
-pub mod Answers
 pub mod Faults
 pub mod Definitions
 pub mod Params

@@ -1,5 +1,5 @@
 ghost use Rattle.std.specs.Prelude.{◌≡◌, ◌<◌, [], Err, length};
-ghost use Rattle.macro_table.specs.Answers.{Answers};
+ghost use Rattle.mac_base.specs.Answers.{Answers};
 ghost use Rattle.macro_table.specs.Definitions.{param_fault, closed, params_from, param_list};
 ghost use Rattle.macro_table.specs.declared.fault.DefFault.TheVariants.{NoMemory as RanOut};
 

@@ -1,7 +1,7 @@
 ghost use Rattle.std.specs.Prelude.{◌≡◌, ◌++◌, [], if◌then◌else◌, Some, IfOk, OnOk};
 ghost use Rattle.std.specs.List.{flat_map, join_with_byte};
 ghost use lib.Chars.{codes};
-ghost use Rattle.macro_table.specs.Answers.{Answers};
+ghost use Rattle.mac_base.specs.Answers.{Answers};
 ghost use Rattle.macro_table.specs.Texts.{spaced, body_text, list_words, list_text, text_of, def_of_text};
 ghost use Rattle.macro_table.specs.declared.fault.TextFault.TheVariants.{NoMemory as RanOut};
 

@@ -12,7 +12,7 @@ use Rattle.std.proofs.lemmas.List.{map_push, take-map, length-map}
 use Rattle.mac_base.specs.Names.{name_of}
 use Rattle.mac_base.specs.declared.frames.Frame.{Frame}
 use Rattle.macro_table.specs.Tables.{EntryValue, TableOf}
-use Rattle.macro_table.specs.Items.{Define, Undef, Start, End}
+use Rattle.mac_base.specs.Items.{Define, Undef, Start, End}
 use Rattle.macro_table.proofs.TableLemmas.{inserted, removed}
 use Rattle.position_table.specs.declared.files.FileId.{FileId}
 use Rattle.position_table.specs.declared.draft.Definition.{Definition}

@@ -11,7 +11,7 @@ use Rattle.import_graph.specs.declared.spliced.Spliced.TheVariants.{Define as He
 use Rattle.import_graph.specs.Numbers.{item_of}
 use Rattle.import_graph.specs.Graph.{NextSays}
 use Rattle.import_graph.specs.Nodes.{AreNumbered}
-use Rattle.macro_table.specs.Items.{Item, Define, Undef, Start, End, is_start, starts_at, depth_behind, first_inside}
+use Rattle.mac_base.specs.Items.{Item, Define, Undef, Start, End, is_start, starts_at, depth_behind, first_inside}
 use Rattle.macro_table.specs.FileTable.{levels}
 
 -- the next entry of a list of which n are passed

@@ -3,7 +3,7 @@ use Rattle.std.proofs.Common.{◌≡◌, ℕ, ◌+◌, ◌-◌, ◌≤◌, Bool,
 use Rattle.std.specs.Prelude.{unwrap_or}
 use Rattle.std.specs.Option.{option_map, option_and_then}
 use Rattle.std.proofs.lemmas.List.{take_all, take-take, drop-take, take-append-drop, length-drop}
-use Rattle.macro_table.specs.Items.{Item, Define, Undef, Start, End, ends_or_reaches, depth_behind, first_inside}
+use Rattle.mac_base.specs.Items.{Item, Define, Undef, Start, End, ends_or_reaches, depth_behind, first_inside}
 use Rattle.macro_table.specs.FileTable.{behind, prefix, table_behind, table_of}
 use Rattle.position_table.specs.Standing.{Standing, at_first, behind_one, behind_all}
 

@@ -1,6 +1,6 @@
 -- What the calls answer. Want of memory alone is free.
 use Rattle.std.specs.Prelude.{◌≡◌, ℕ, List, Some, None, Result, Ok, Err}
-use Rattle.macro_table.specs.Items.{Item}
+use Rattle.mac_base.specs.Items.{Item}
 use Rattle.macro_table.specs.FileTable.{instance}
 use Rattle.position_table.specs.declared.position.Position.{Position}
 use Rattle.position_table.specs.declared.fault.PositionText.{PositionText}

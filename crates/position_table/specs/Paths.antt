@@ -1,8 +1,8 @@
 -- The first instance of a file, by its path.
 use Rattle.std.specs.Prelude.{ℕ, Bool, false, List, Option, position}
 use Rattle.std.specs.Str.{bytes_eq}
-use Rattle.macro_table.specs.Items.{Item, Define, Undef, Start, End}
-use Rattle.import_graph.specs.Numbers.{path_in}
+use Rattle.mac_base.specs.Items.{Item, Define, Undef, Start, End}
+use Rattle.mac_base.specs.ItemLines.{path_in}
 use Rattle.import_graph.specs.Graph.{GraphValue}
 
 -- an entry that begins a file of this path, where files are named by their numbers among these paths

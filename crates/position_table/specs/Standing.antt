@@ -7,7 +7,7 @@ use Rattle.mac_base.specs.declared.frames.Frame.{Frame}
 use Rattle.mac_base.specs.Names.{name_of}
 use Rattle.macro_table.specs.Tables.{EntryValue, TableOf}
 use Rattle.macro_table.specs.Codes.{coded_table}
-use Rattle.macro_table.specs.Items.{Item}
+use Rattle.mac_base.specs.Items.{Item}
 use Rattle.macro_table.specs.FileTable.{open_behind, changed}
 use Rattle.position_table.specs.declared.draft.Definition.{Definition}
 use Rattle.position_table.specs.Files.{frames_of}

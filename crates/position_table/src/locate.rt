@@ -1,5 +1,5 @@
 ghost use Rattle.std.specs.Prelude.{◌≡◌, ◌+◌, ◌<◌, ◌≤◌, ◌^◌, ◌==◌, ◌&&◌, drop, length, position, IfOk, IfSome};
-ghost use Rattle.macro_table.specs.Items.{is_start, starts_at, depth_behind, first_inside};
+ghost use Rattle.mac_base.specs.Items.{is_start, starts_at, depth_behind, first_inside};
 ghost use Rattle.import_graph.specs.Numbers.{item_of};
 ghost use Rattle.import_graph.specs.Graph.{most_items};
 ghost use Rattle.position_table.specs.Answers.{IsSpotOf};

@@ -1,5 +1,5 @@
 ghost use Rattle.std.specs.Prelude.{◌≡◌, ◌+◌, ◌≤◌, ◌==◌, ◌&&◌, take, drop, length, unwrap_or, IfOk, OnOk};
-ghost use Rattle.macro_table.specs.Items.{ends_or_reaches, first_inside};
+ghost use Rattle.mac_base.specs.Items.{ends_or_reaches, first_inside};
 ghost use Rattle.macro_table.specs.FileTable.{prefix, table_of};
 ghost use Rattle.import_graph.specs.Numbers.{item_of};
 ghost use Rattle.import_graph.specs.Graph.{most_items};

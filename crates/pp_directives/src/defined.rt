@@ -1,7 +1,7 @@
 ghost use Rattle.std.specs.Prelude.{◌≡◌, ◌<◌, ℕ, Bool, List, [], length, Ok, Err, IfOk, IfErr, IfSome, IfNone, MatchOption};
 ghost use Rattle.pp_tokens.specs.declared.token.Token.{Token as TokenValue};
 ghost use Rattle.pp_tokens.specs.Kinds.{same};
-ghost use Rattle.macro_table.specs.Answers.{Answers, IsFaultOf};
+ghost use Rattle.mac_base.specs.Answers.{Answers, IsFaultOf};
 ghost use Rattle.pp_directives.specs.declared.fault.ExprFault.TheVariants.{Syntax, NoMemory as RanOut};
 ghost use Rattle.pp_directives.specs.Defined.{is_built_in, is_defined, truth, before, resolved, behind_defined, behind_parenthesis};
 

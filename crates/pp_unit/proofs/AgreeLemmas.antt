@@ -8,7 +8,7 @@ use Rattle.std.specs.Option.{option_map, ok_or}
 use Rattle.std.specs.List.{list_any, find}
 use Rattle.mac_base.specs.Input.{◌>>=◌}
 use Rattle.pp_tokens.specs.Kinds.{same}
-use Rattle.macro_table.specs.Items.{Item, Define, Undef, Start, End, starts_at, ends_or_reaches, first_inside}
+use Rattle.mac_base.specs.Items.{Item, Define, Undef, Start, End, starts_at, ends_or_reaches, first_inside}
 use Rattle.macro_table.specs.FileTable.{behind, levels, prefix}
 use Rattle.pp_unit.specs.Seen.{Mark}
 use Rattle.pp_unit.specs.PreTables.{is_of, is_at, files_walked}

@@ -7,9 +7,9 @@ use Rattle.mac_io.specs.declared.headers.Form.TheVariants.{Quote, Angle}
 use Rattle.pp_tokens.specs.declared.token.Token.{Token}
 use Rattle.pp_tokens.specs.declared.line.Line.{Line}
 use Rattle.macro_table.specs.declared.fault.DefFault.{DefFault}
-use Rattle.macro_table.specs.Answers.{Answers}
-use Rattle.macro_table.specs.Items.{Item}
-use Rattle.macro_table.specs.Items.{Define as DefineItem, Undef as UndefItem, Start as StartItem}
+use Rattle.mac_base.specs.Answers.{Answers}
+use Rattle.mac_base.specs.Items.{Item}
+use Rattle.mac_base.specs.Items.{Define as DefineItem, Undef as UndefItem, Start as StartItem}
 use Rattle.macro_table.specs.Texts.{text_of, body_text}
 use lib.Chars.{codes}
 use Rattle.macro_table.specs.Definitions.{DefValue, def_of, is_spelled}

@@ -2,7 +2,7 @@
 use Rattle.std.proofs.Common.{◌≡◌, ◌⊎◌, inl, inr, List, Result, Ok, Err, refl, sym, subst}
 use Rattle.std.specs.Result.{IsErrAnd}
 use Rattle.pp_tokens.specs.declared.token.Token.{Token}
-use Rattle.macro_table.specs.Answers.{Answers}
+use Rattle.mac_base.specs.Answers.{Answers}
 use Rattle.macro_expand.specs.Answering.{IsAnswer}
 use Rattle.macro_expand.specs.declared.fault.ExpandFault.{ExpandFault}
 use Rattle.macro_expand.specs.declared.fault.ExpandFault.TheVariants.{OpenCall, ArgCount, BadPaste, BadString, BadDefinition, LoneQuote, TooLong}

@@ -1,7 +1,7 @@
 -- What is predefined is recorded as three definitions.
 use Rattle.std.proofs.Common.{◌≡◌, ℕ, List, [], ◌∷◌, Ok, Result, subst}
 use lib.Chars.{codes}
-use Rattle.macro_table.specs.Items.{Define}
+use Rattle.mac_base.specs.Items.{Define}
 use Rattle.pp_unit.specs.declared.fault.PpKind.{PpKind}
 use Rattle.pp_unit.specs.Seen.{Seen, added}
 use Rattle.pp_unit.specs.Definitions.{predefined}

@@ -5,7 +5,7 @@ use Rattle.mac_io.specs.declared.headers.FileId.{FileId}
 use Rattle.mac_io.specs.declared.headers.Located.{Located}
 use Rattle.mac_io.specs.declared.headers.Located.TheVariants.{Found, Absent, TooLong, Failed}
 use Rattle.mac_io.specs.declared.headers.Located.TheVariants.{NoMemory as SearchRanOut}
-use Rattle.macro_table.specs.Answers.{Answers}
+use Rattle.mac_base.specs.Answers.{Answers}
 use Rattle.pp_directives.specs.Following.{Chosen, Stops, Goes}
 use Rattle.pp_unit.specs.declared.within.Within.{Within}
 use Rattle.pp_unit.specs.declared.stop.Stop.{Stop}

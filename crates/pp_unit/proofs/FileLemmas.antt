@@ -4,7 +4,7 @@ use Rattle.mac_io.specs.Search.{Finds, candidates}
 use Rattle.mac_io.specs.declared.headers.FileId.{FileId}
 use Rattle.mac_io.specs.declared.headers.Form.{Form}
 use Rattle.mac_io.specs.declared.headers.Located.{Located}
-use Rattle.macro_table.specs.Items.{End}
+use Rattle.mac_base.specs.Items.{End}
 use Rattle.pp_tokens.specs.declared.line.Line.{Line}
 use Rattle.pp_tokens.specs.Cut.{LexesFile}
 use Rattle.pp_directives.specs.Following.{Stops, Goes}

@@ -8,7 +8,7 @@ use Rattle.mac_io.specs.declared.headers.Located.TheVariants.{NoMemory as Search
 use Rattle.pp_tokens.specs.declared.line.Line.{Line}
 use Rattle.pp_tokens.proofs.RiseLemmas.{numbers-rise}
 use Rattle.macro_table.specs.Definitions.{def_of}
-use Rattle.macro_table.specs.Items.{End}
+use Rattle.mac_base.specs.Items.{End}
 use Rattle.pp_directives.specs.declared.directive.Directive.{Directive}
 use Rattle.pp_directives.specs.declared.directive.Directive.TheVariants.{Text, Null, If, Ifdef, Ifndef, Elif, Else, Endif, Include, Define, Undef, LineNumber, Error, Pragma, Unknown}
 use Rattle.pp_directives.specs.Directives.{directive_of}

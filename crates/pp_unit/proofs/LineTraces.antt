@@ -10,7 +10,7 @@ use Rattle.pp_tokens.specs.declared.token.Token.{Token}
 use Rattle.macro_table.specs.declared.fault.DefFault.{DefFault}
 use Rattle.macro_table.specs.Definitions.{DefValue}
 use Rattle.macro_table.specs.Texts.{text_of}
-use Rattle.macro_table.specs.Items.{Item, Define, Undef, Start, End}
+use Rattle.mac_base.specs.Items.{Item, Define, Undef, Start, End}
 use Rattle.macro_expand.specs.declared.here.Here.{Here}
 use Rattle.macro_expand.specs.Macros.{Macros}
 use Rattle.pp_directives.specs.Following.{Goes}

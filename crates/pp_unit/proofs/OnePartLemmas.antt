@@ -16,7 +16,7 @@ use Rattle.macro_table.specs.declared.fault.TextFault.TheVariants.{Lex as TextLe
 use Rattle.macro_table.specs.declared.fault.TextFault.TheVariants.{NoMemory as TextRanOut}
 use Rattle.macro_table.specs.Definitions.{DefValue, def_of, is_spelled}
 use Rattle.macro_table.specs.Texts.{text_of, def_of_text, body_text}
-use Rattle.macro_table.specs.Items.{Item, Define, Undef, Start}
+use Rattle.mac_base.specs.Items.{Item, Define, Undef, Start}
 use Rattle.macro_table.proofs.PlainLemmas.{faults_are_plain}
 use Rattle.macro_expand.specs.declared.here.Here.{Here}
 use Rattle.macro_expand.specs.declared.fault.ExpandFault.{ExpandFault}

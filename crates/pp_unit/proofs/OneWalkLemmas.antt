@@ -12,7 +12,7 @@ use Rattle.pp_tokens.specs.declared.fault.LexFault.{LexFault}
 use Rattle.pp_tokens.specs.Cut.{LexesFile}
 use Rattle.pp_tokens.specs.Laws.{IsAnswer}
 use Rattle.pp_tokens.proofs.UniqueLemmas.{file-unique}
-use Rattle.macro_table.specs.Items.{End}
+use Rattle.mac_base.specs.Items.{End}
 use Rattle.pp_directives.specs.declared.directive.Directive.{Directive}
 use Rattle.pp_directives.specs.declared.directive.Directive.TheVariants.{Text, Null, If, Ifdef, Ifndef, Elif, Else, Endif, Include, Define, Undef, LineNumber, Error, Pragma, Unknown}
 use Rattle.pp_directives.specs.Directives.{directive_of}

@@ -8,12 +8,13 @@ use Rattle.std.specs.Cmp.Lexicographic.{slice_cmp, nat_list_cmp_total}
 use Rattle.std.specs.FinMap as finite
 use Rattle.mac_base.specs.Names.{name_of}
 use Rattle.macro_table.specs.Tables.{EntryValue, TableOf}
-use Rattle.macro_table.specs.Items.{Item, Define, Undef, Start, End}
+use Rattle.mac_base.specs.Items.{Item, Define, Undef, Start, End}
 use Rattle.macro_table.specs.FileTable.{table_of, table_behind, changed, open_behind}
 use Rattle.mac_base.specs.declared.events.Event.{Event}
 use Rattle.mac_base.specs.declared.events.Event.TheVariants.{Define as HeldDefine, Undef as HeldUndef, Start as HeldStart, End as HeldEnd}
 use Rattle.mac_io.specs.declared.headers.FileId.{FileId}
-use Rattle.pp_unit.specs.Seen.{Seen, with_path, text_in, item_of, text_length, texts_length, event_limit, text_limit}
+use Rattle.pp_unit.specs.Seen.{Seen, with_path, text_in, text_length, texts_length, event_limit, text_limit}
+use Rattle.mac_base.specs.ItemLines.{item_of}
 use Rattle.pp_unit.specs.Recorded.{SameTexts, IsSound}
 use Rattle.macro_table.specs.Definitions.{DefValue}
 use Rattle.macro_table.specs.Texts.{def_of_text}

@@ -1,7 +1,7 @@
 -- Marks and events of a small unit: at each line both have the same front of the events.
 use Rattle.std.proofs.Common.{◌≡◌, ℕ, List, [], ◌∷◌, take, Option, Some, None, Ok, Err, refl}
 use Rattle.std.specs.List.{find}
-use Rattle.macro_table.specs.Items.{Item, Define, Undef, Start, End}
+use Rattle.mac_base.specs.Items.{Item, Define, Undef, Start, End}
 use Rattle.macro_table.specs.FileTable.{instance, prefix}
 use Rattle.pp_unit.specs.Seen.{Mark}
 use Rattle.pp_unit.specs.PreTables.{is_at, files_walked}

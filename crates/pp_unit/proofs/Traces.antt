@@ -1,7 +1,7 @@
 -- What the walk of a file leaves, line by line, as a tree; and its entries, in which those that stand directly in the file are found.
 use Rattle.std.proofs.Common.{◌≡◌, ◌<◌, ℕ, suc, ◌+◌, ◌-◌, Bool, true, false, cond, ◌&&◌, eqb, List, [], ◌∷◌, ◌++◌, length, Option, Some, None, refl, ap, ◌∙◌, arith}
 use Rattle.std.specs.Option.{option_map, option_and_then}
-use Rattle.macro_table.specs.Items.{Item, Define, Undef, Start, End, depth_behind, first_inside}
+use Rattle.mac_base.specs.Items.{Item, Define, Undef, Start, End, depth_behind, first_inside}
 use Rattle.pp_unit.specs.Seen.{Mark}
 
 -- The lines of a file, each with what it does: nothing, a definition, an `#undef`, or the inclusion of a file by the number of its path.

@@ -20,7 +20,7 @@ use Rattle.macro_table.specs.declared.fault.DefFault.TheVariants.{NoName}
 use Rattle.macro_table.specs.Definitions.{DefValue}
 use Rattle.macro_table.specs.Texts.{text_of, def_of_text}
 use Rattle.macro_table.specs.Tables.{TableOf}
-use Rattle.macro_table.specs.Items.{Item, Define, Undef, Start, End, is_start}
+use Rattle.mac_base.specs.Items.{Item, Define, Undef, Start, End, is_start}
 use Rattle.macro_table.specs.FileTable.{prefix, table_of, file_table}
 use Rattle.pp_directives.specs.Following.{Goes, Chosen}
 use Rattle.pp_unit.specs.declared.spec.Command.{Command}

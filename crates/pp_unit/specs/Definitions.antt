@@ -12,7 +12,7 @@ use Rattle.macro_table.specs.declared.fault.TextFault.TheVariants.{NoMemory as T
 use Rattle.macro_table.specs.Definitions.{DefValue}
 use Rattle.macro_table.specs.SameDefinitions.{same_def}
 use Rattle.macro_table.specs.Texts.{text_of, def_of_text}
-use Rattle.macro_table.specs.Items.{Define, Undef}
+use Rattle.mac_base.specs.Items.{Define, Undef}
 use Rattle.pp_unit.specs.declared.spec.Command.{Command}
 use Rattle.pp_unit.specs.declared.spec.Command.TheVariants.{Define as DefineWord, Undef as UndefWord}
 use Rattle.pp_unit.specs.declared.fault.PpKind.{PpKind}

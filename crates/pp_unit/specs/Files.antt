@@ -11,7 +11,7 @@ use Rattle.pp_tokens.specs.Laws.{IsAnswer}
 use Rattle.pp_tokens.specs.declared.line.Line.{Line}
 use Rattle.pp_tokens.specs.declared.fault.LexFault.{LexFault}
 use Rattle.pp_tokens.specs.declared.fault.LexFault.TheVariants.{NulByte, OpenComment, NoMemory as LexRanOut}
-use Rattle.macro_table.specs.Items.{End}
+use Rattle.mac_base.specs.Items.{End}
 use Rattle.pp_directives.specs.declared.directive.Directive.{Directive}
 use Rattle.pp_directives.specs.declared.directive.Directive.TheVariants.{Include}
 use Rattle.pp_directives.specs.Directives.{directive_of}

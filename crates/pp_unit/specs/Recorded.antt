@@ -9,7 +9,7 @@ use Rattle.std.specs.BTreeSet.{BTreeSet, contains}
 use Rattle.mac_io.specs.declared.headers.FileId.{FileId}
 use Rattle.pp_tokens.specs.Kinds.{same}
 use Rattle.macro_table.specs.Tables.{TableOf}
-use Rattle.macro_table.specs.Items.{Item}
+use Rattle.mac_base.specs.Items.{Item}
 use Rattle.macro_table.specs.FileTable.{table_of}
 use Rattle.pp_unit.specs.declared.fault.PpKind.{PpKind}
 use Rattle.pp_unit.specs.declared.fault.PpKind.TheVariants.{NoMemory}

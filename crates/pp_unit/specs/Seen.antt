@@ -4,11 +4,9 @@ use Rattle.std.specs.Option.{option_map}
 use Rattle.std.specs.List.{list_any}
 use Rattle.std.specs.FinMap as finite
 use Rattle.mac_base.specs.declared.frames.Frame.{Frame}
-use Rattle.mac_base.specs.declared.events.Event.{Event}
-use Rattle.mac_base.specs.declared.events.Event.TheVariants.{Define as HeldDefine, Undef as HeldUndef, Start as HeldStart, End as HeldEnd}
 use Rattle.mac_io.specs.declared.headers.FileId.{FileId}
 use Rattle.pp_tokens.specs.Kinds.{same}
-use Rattle.macro_table.specs.Items.{Item, Define, Undef, Start, End}
+use Rattle.mac_base.specs.Items.{Item, Define, Undef, Start, End}
 use Rattle.macro_table.specs.Tables.{EntryValue, TableOf}
 use Rattle.macro_table.specs.FileTable.{table_of}
 use Rattle.macro_expand.specs.Macros.{Macros, macros_of}
@@ -28,13 +26,6 @@ pub record Seen : Type 0 where
   pub items : List (Item ℕ)
   pub files : List (List ℕ)
   pub once : List FileId
-
--- an event
-abbrev pub item_of : Event → Item ℕ
-item_of (HeldDefine line text) = Define line text
-item_of (HeldUndef line name) = Undef line name
-item_of (HeldStart line file) = Start line file
-item_of HeldEnd = End
 
 -- the table behind all events so far
 abbrev pub table : Seen → TableOf ℕ

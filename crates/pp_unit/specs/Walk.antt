@@ -7,7 +7,8 @@ use Rattle.pp_unit.specs.declared.spec.UnitSpec.{UnitSpec}
 use Rattle.pp_unit.specs.declared.fault.PpFault.{PpFault}
 use Rattle.pp_unit.specs.declared.fault.PpKind.TheVariants.{StoreFault}
 use Rattle.pp_unit.specs.Kinds.{ran_out}
-use Rattle.pp_unit.specs.Seen.{Seen, Marked, item_of}
+use Rattle.pp_unit.specs.Seen.{Seen, Marked}
+use Rattle.mac_base.specs.ItemLines.{item_of}
 use Rattle.pp_unit.specs.Definitions.{all_commanded, predefined}
 use Rattle.pp_unit.specs.Files.{Stores, Part, Includes, Walks}
 

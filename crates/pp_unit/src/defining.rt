@@ -2,7 +2,7 @@ ghost use Rattle.std.specs.Prelude.{◌≡◌, Ok, IfOk};
 ghost use Rattle.std.specs.List.{list_any, list_all};
 ghost use Rattle.std.specs.Option.{option_copied};
 ghost use Rattle.pp_tokens.specs.Kinds.{same, is_identifier, is_letter, is_word};
-ghost use Rattle.macro_table.specs.Answers.{Answers};
+ghost use Rattle.mac_base.specs.Answers.{Answers};
 ghost use Rattle.macro_table.specs.Definitions.{def_of};
 ghost use Rattle.macro_table.specs.Texts.{def_of_text};
 ghost use Rattle.pp_unit.specs.declared.fault.PpKind.TheVariants.{NoMemory as RanOut};

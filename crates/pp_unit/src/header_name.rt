@@ -1,7 +1,7 @@
 ghost use Rattle.std.specs.Prelude.{◌≡◌, ◌++◌, IfOk, OnOk, length, take_while, not};
 ghost use Rattle.std.specs.Option.{option_map};
 ghost use Rattle.std.specs.List.{list_any};
-ghost use Rattle.macro_table.specs.Answers.{Answers};
+ghost use Rattle.mac_base.specs.Answers.{Answers};
 ghost use Rattle.macro_table.specs.Texts.{spaced, body_text};
 ghost use Rattle.pp_unit.specs.declared.fault.PpKind.TheVariants.{NoMemory as RanOut};
 ghost use Rattle.pp_unit.specs.Seen.{macros};

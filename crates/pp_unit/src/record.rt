@@ -1,7 +1,7 @@
 ghost use Rattle.std.specs.Prelude.{◌≡◌, ◌⊎◌, ◌+◌, ◌<◌, ◌≤◌, ℕ, [], ◌∷◌, ◌++◌, length, Ok, IfOk, IfErr, OnOk};
 ghost use Rattle.std.specs.Option.{option_copied};
-ghost use Rattle.macro_table.specs.Answers.{Answers};
-ghost use Rattle.macro_table.specs.Items.{Item, Define, Undef, Start, End};
+ghost use Rattle.mac_base.specs.Answers.{Answers};
+ghost use Rattle.mac_base.specs.Items.{Item, Define, Undef, Start, End};
 ghost use Rattle.pp_directives.specs.Defined.{is_defined, resolved};
 ghost use Rattle.pp_unit.specs.declared.fault.PpKind.TheVariants.{NoMemory as RanOut};
 ghost use Rattle.pp_unit.specs.Seen.{Seen, table, macros, text_in, text_length, texts_length, event_limit, text_limit, added, started, number_of, is_once, with_once};
@@ -48,7 +48,8 @@ pub struct Record {
 
 impl Model for Record {
     ghost use Rattle.std.specs.Prelude.{map};
-    ghost use Rattle.pp_unit.specs.Seen.{Seen, item_of};
+    ghost use Rattle.pp_unit.specs.Seen.{Seen};
+    ghost use Rattle.mac_base.specs.ItemLines.{item_of};
     ghost use Rattle.pp_unit.specs.Recorded.{IsSound};
 
     ghost Value = { Seen };

@@ -1,6 +1,6 @@
 ghost use Rattle.std.specs.Prelude.{◌≡◌, ◌<◌, [], ◌∷◌, length, IfOk, IfErr};
 ghost use Rattle.mac_io.specs.Causes.{HasCause};
-ghost use Rattle.macro_table.specs.Answers.{Answers};
+ghost use Rattle.mac_base.specs.Answers.{Answers};
 ghost use Rattle.pp_unit.specs.declared.fault.PpKind.TheVariants.{NoMemory as RanOut};
 ghost use Rattle.pp_unit.specs.Definitions.{all_commanded, predefined};
 ghost use Rattle.pp_unit.specs.Files.{Includes, Walks};

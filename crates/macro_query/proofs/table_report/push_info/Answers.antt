@@ -3,7 +3,7 @@ use Rattle.std.specs.Option.{option_map, option_copied}
 use Rattle.std.specs.Borrow.{Bor}
 use Rattle.macro_table.specs.declared.entry.Entry.{Entry}
 use Rattle.macro_table.specs.Tables.{entry_value, renamed_value}
-use Rattle.import_graph.specs.Numbers.{path_in}
+use Rattle.mac_base.specs.ItemLines.{path_in}
 use Rattle.macro_query.specs.Tables.{info_by}
 use Rattle.macro_query.proofs.TableLemmas.{found_by}
 use Rattle.macro_query.proofs.table_report.push_info.Goals as goal

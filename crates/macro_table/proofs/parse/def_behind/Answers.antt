@@ -1,6 +1,6 @@
 use Rattle.std.proofs.Common.{sym, ◌∙◌, subst}
 use Rattle.macro_table.specs.declared.fault.DefFault.TheVariants.{NoMemory as RanOut}
-use Rattle.macro_table.specs.Answers.{Answers}
+use Rattle.mac_base.specs.Answers.{Answers}
 use Rattle.macro_table.specs.Definitions.{ParamList, function_like, checked}
 use Rattle.macro_table.proofs.ParamLemmas.{behind_list}
 use Rattle.macro_table.proofs.parse.def_behind.Goals as goal

@@ -2,7 +2,7 @@ use Rattle.std.proofs.Common.{◌≡◌, List, Ok, subst}
 use Rattle.std.proofs.lemmas.Result.{err_from_is_err_and}
 use Rattle.pp_tokens.specs.declared.token.Token.{Token}
 use Rattle.macro_table.specs.declared.fault.DefFault.TheVariants.{NoMemory as DefRanOut}
-use Rattle.macro_table.specs.Answers.{IsFaultOf}
+use Rattle.mac_base.specs.Answers.{IsFaultOf}
 use Rattle.macro_table.specs.Definitions.{def_of}
 use Rattle.macro_table.proofs.TextLemmas.{lex_stops, def_given, def_stops}
 use Rattle.macro_table.proofs.texts.def_of_text.Goals as goal

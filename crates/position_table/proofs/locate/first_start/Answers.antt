@@ -1,6 +1,6 @@
 use Rattle.std.proofs.Common.{◌≡◌, ◌+◌, ◌<◌, ◌∷◌, length, drop, refl, ap, sym, ◌∙◌, arith}
 use Rattle.std.specs.List.{position_from}
-use Rattle.macro_table.specs.Items.{is_start}
+use Rattle.mac_base.specs.Items.{is_start}
 use Rattle.import_graph.specs.Numbers.{item_of}
 use Rattle.position_table.proofs.ScanLemmas.{drop_next, position_from_first, taken, not_start, later_from}
 use Rattle.position_table.proofs.locate.first_start.Goals as goal

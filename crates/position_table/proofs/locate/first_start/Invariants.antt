@@ -1,6 +1,6 @@
 use Rattle.std.proofs.Common.{◌≡◌, ◌+◌, drop, length, position}
 use Rattle.std.specs.List.{position_from}
-use Rattle.macro_table.specs.Items.{is_start}
+use Rattle.mac_base.specs.Items.{is_start}
 use Rattle.position_table.proofs.locate.first_start.Given as goal
 
 abbrev pub invariant-loop-entry : goal.invariant-loop-entry

@@ -1,5 +1,5 @@
 use Rattle.std.proofs.Common.{◌≡◌, ℕ, ◌+◌, ◌<◌, List, ◌∷◌, length, drop, refl, ap, sym, ◌∙◌, arith}
-use Rattle.macro_table.specs.Items.{Item, starts_at}
+use Rattle.mac_base.specs.Items.{Item, starts_at}
 use Rattle.import_graph.specs.Numbers.{item_of}
 use Rattle.position_table.proofs.ScanLemmas.{drop_next, inside_from, inside_from_first, taken, inside_later, depth_more}
 use Rattle.position_table.proofs.locate.first_start_at.Goals as goal

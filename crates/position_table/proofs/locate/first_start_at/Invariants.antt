@@ -1,5 +1,5 @@
 use Rattle.std.proofs.Common.{◌≡◌, ◌+◌, ◌≤◌, drop, length}
-use Rattle.macro_table.specs.Items.{starts_at, first_inside}
+use Rattle.mac_base.specs.Items.{starts_at, first_inside}
 use Rattle.position_table.proofs.ScanLemmas.{inside_from}
 use Rattle.position_table.proofs.locate.first_start_at.Given as goal
 

@@ -1,7 +1,7 @@
 use Rattle.std.proofs.Common.{◌≡◌, ℕ, ◌+◌, Option, Some, None, drop, ap, sym, ◌∙◌, arith}
 use Rattle.std.specs.Prelude.{position}
 use Rattle.std.specs.Option.{option_map}
-use Rattle.macro_table.specs.Items.{is_start}
+use Rattle.mac_base.specs.Items.{is_start}
 use Rattle.macro_table.specs.FileTable.{levels}
 use Rattle.position_table.proofs.ScanLemmas.{not_some, levels_none, level_more, some_behind, rest_more}
 use Rattle.position_table.proofs.locate.locate_chain.Goals as goal

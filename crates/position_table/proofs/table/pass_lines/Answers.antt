@@ -1,6 +1,6 @@
 use Rattle.std.proofs.Common.{ℕ, List, length, ap, sym, ◌∙◌, arith}
 use Rattle.import_graph.specs.Numbers.{item_of}
-use Rattle.macro_table.specs.Items.{Item, ends_or_reaches}
+use Rattle.mac_base.specs.Items.{Item, ends_or_reaches}
 use Rattle.position_table.specs.Standing.{Standing, behind_all}
 use Rattle.position_table.proofs.ScanLemmas.{taken, depth_more}
 use Rattle.position_table.proofs.TableLemmas.{upto, upto_miss}

@@ -1,5 +1,5 @@
 use Rattle.std.proofs.Common.{◌≡◌, ◌+◌, ◌≤◌, length}
-use Rattle.macro_table.specs.Items.{ends_or_reaches}
+use Rattle.mac_base.specs.Items.{ends_or_reaches}
 use Rattle.position_table.specs.Standing.{behind_all}
 use Rattle.position_table.proofs.TableLemmas.{upto}
 use Rattle.position_table.proofs.table.pass_lines.Given as goal

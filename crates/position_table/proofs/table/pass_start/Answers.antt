@@ -1,6 +1,6 @@
 use Rattle.std.proofs.Common.{◌≡◌, ℕ, ◌+◌, ◌-◌, List, take, drop, ap, sym, ◌∙◌, arith}
 use Rattle.import_graph.specs.Numbers.{item_of}
-use Rattle.macro_table.specs.Items.{Item}
+use Rattle.mac_base.specs.Items.{Item}
 use Rattle.position_table.specs.Standing.{Standing, behind_all}
 use Rattle.position_table.proofs.ScanLemmas.{taken}
 use Rattle.position_table.proofs.TableLemmas.{take_first, drop_first}

@@ -1,6 +1,6 @@
 use Rattle.std.proofs.Common.{◌≡◌, ℕ, ◌+◌, List, take, drop, ap, ◌∙◌}
 use Rattle.std.proofs.lemmas.Result.{IfOk-weaker}
-use Rattle.macro_table.specs.Items.{Item, ends_or_reaches}
+use Rattle.mac_base.specs.Items.{Item, ends_or_reaches}
 use Rattle.macro_table.specs.FileTable.{prefix, table_of}
 use Rattle.position_table.specs.Standing.{Standing, at_first, behind_all}
 use Rattle.position_table.proofs.TableLemmas.{upto, table_there}

@@ -1,5 +1,5 @@
 use Rattle.std.proofs.Common.{◌≡◌, subst, Ok}
-use Rattle.macro_table.specs.Items.{Define}
+use Rattle.mac_base.specs.Items.{Define}
 use Rattle.pp_unit.specs.Seen.{Seen, added}
 use Rattle.pp_unit.proofs.DefiningLemmas.{predefined_is}
 use Rattle.pp_unit.proofs.defining.predefine.Goals as goal

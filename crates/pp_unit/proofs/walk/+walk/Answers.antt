@@ -6,7 +6,7 @@ use Rattle.std.proofs.Common.{◌<◌, ◌+◌, length, suc, drop, inr}
 use Rattle.pp_unit.specs.declared.within.Within.{Within}
 use Rattle.pp_unit.specs.Files.{Stores, Walks, Enters, IncludesFound, DoesInclude, inside, last_number}
 use Rattle.pp_unit.specs.Seen.{macros, started, added}
-use Rattle.macro_table.specs.Items.{End}
+use Rattle.mac_base.specs.Items.{End}
 use Rattle.pp_unit.specs.HeaderNames.{NamesHeader}
 use Rattle.pp_unit.specs.Questions.{operands, here_of}
 use Rattle.pp_unit.specs.Stopping.{with_marks, StopComesTo}

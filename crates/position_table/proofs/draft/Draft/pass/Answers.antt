@@ -5,7 +5,7 @@ use Rattle.std.proofs.lemmas.List.{length_push}
 use Rattle.mac_base.specs.declared.frames.Frame.{Frame}
 use Rattle.import_graph.specs.declared.spliced.Spliced.{Spliced}
 use Rattle.import_graph.specs.Numbers.{item_of}
-use Rattle.macro_table.specs.Items.{Item, Define, Undef, Start, End}
+use Rattle.mac_base.specs.Items.{Item, Define, Undef, Start, End}
 use Rattle.position_table.specs.declared.draft.Definition.{Definition}
 use Rattle.position_table.specs.Standing.{Standing, behind_one}
 use Rattle.position_table.proofs.DraftLemmas.{order, standing_of, kept_inserted, kept_removed, kept_more, behind_define, behind_undef, behind_start, behind_end}
