@@ -3,3 +3,4 @@ pub mod FieldLemmas
 pub mod SpellingLemmas
 pub mod InputLemmas
 pub mod ValueLemmas
+pub mod ReportLemmas

@@ -11,3 +11,4 @@ pub mod Names
 pub mod Items
 pub mod ItemLines
 pub mod Answers
+pub mod ReportText
