@@ -4,3 +4,7 @@ pub mod SpellingLemmas
 pub mod InputLemmas
 pub mod ValueLemmas
 pub mod ReportLemmas
+pub mod WritingLemmas
+pub mod LengthLemmas
+pub mod StringsLemmas
+pub mod DigitLemmas

@@ -7,7 +7,8 @@ use Rattle.mac_base.specs.Fields.{before_nul, leb_digits}
 use Rattle.mac_base.specs.Spelling.{AreDigits}
 use Rattle.mac_base.proofs.Choices.{chosen, some_map, same_some}
 
-digits_more : (b : ℕ) (ds : List ℕ) → 128 ≤ b → AreDigits ds → AreDigits (b ∷ ds)
+-- a digit more
+pub digits_more : (b : ℕ) (ds : List ℕ) → 128 ≤ b → AreDigits ds → AreDigits (b ∷ ds)
 digits_more b [] high are = absurd are
 digits_more b (d ∷ ds) high are = (high, are)
 

@@ -4,11 +4,15 @@ pub mod Spelling
 pub mod Forms
 pub mod Values
 pub mod ValueSpelling
-pub mod Laws
 pub mod Extents
+pub mod LengthSpelling
+pub mod Writing
+pub mod Laws
 pub mod SectionBytes
 pub mod Names
 pub mod Items
 pub mod ItemLines
 pub mod Answers
 pub mod ReportText
+pub mod Digits
+pub mod Strings

@@ -4,6 +4,7 @@
 
 mod bytes;
 mod cursor;
+mod digits;
 mod events;
 mod extent;
 mod form;
@@ -19,19 +20,22 @@ mod place;
 mod report;
 mod sections;
 mod steps;
+mod strings;
 #[cfg(test)]
 mod tests;
 mod value;
+mod writing;
 
 pub use bytes::Bytes;
 pub use cursor::{Cursor, CursorFault};
+pub use digits::{digit_value, number_of};
 pub use events::{Event, EventList, Events};
 pub use extent::{Extent, ExtentFault, extent_at};
 pub use form::{Form, Layout, form_of, layout_of};
 pub use frames::{Frame, Frames};
 pub use hexadecimal::{hex_digits, push_hex};
 pub use item_lines::{path_at, push_event, push_item};
-pub use laws::fields_are_exact;
+pub use laws::{fields_are_exact, lengths_are_exact, writing_is_exact};
 pub use memory::NoMemory;
 pub use paths::Paths;
 pub use pieces::{push_bytes, push_decimal, push_number, push_offset, push_text};
@@ -39,4 +43,6 @@ pub use place::Place;
 pub use report::ReportBuilder;
 pub use sections::Sections;
 pub use steps::Steps;
+pub use strings::end_of_strings;
 pub use value::{Sizes, Value, read_offset, read_value};
+pub use writing::{push_fixed, push_uleb};

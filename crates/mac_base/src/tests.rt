@@ -1,5 +1,6 @@
 use crate::{
-    Cursor, CursorFault, Extent, ExtentFault, Form, Sizes, Value, extent_at, form_of, read_value,
+    Bytes, Cursor, CursorFault, Event, Extent, ExtentFault, Form, ReportBuilder, Sizes, Value,
+    end_of_strings, extent_at, form_of, number_of, push_fixed, push_offset, push_uleb, read_value,
 };
 use std::test::Fail;
 
@@ -93,5 +94,45 @@ fn a_unit_ends_in_its_section(rt: HostRuntime) -> Result<(), Fail> {
     for (section, at, fault) in rows.iter() {
         assert_eq!(rt; extent_at(section, *at).err(), Some(*fault));
     }
+    Ok(())
+}
+
+#[test]
+fn numbers_are_written_lowest_digit_first(rt: HostRuntime) -> Result<(), Fail> {
+    let mut bytes = Vec::new(rt.alloc());
+    push_uleb(&mut bytes, 0)?;
+    push_uleb(&mut bytes, 127)?;
+    // The example of figure 22 of DWARF 5.
+    push_uleb(&mut bytes, 12857)?;
+    push_uleb(&mut bytes, u64::MAX)?;
+    push_fixed(&mut bytes, 0x0102, 2)?;
+    push_fixed(&mut bytes, 7, 4)?;
+    let wanted: &[u8] = b"\0\x7f\xb9\x64\xff\xff\xff\xff\xff\xff\xff\xff\xff\x01\x02\x01\x07\0\0\0";
+    assert_eq!(rt; bytes.as_slice(), wanted);
+    Ok(())
+}
+
+#[test]
+fn digits_spell_numbers_below_2_to_the_64(rt: HostRuntime) -> Result<(), Fail> {
+    assert_eq!(rt; number_of(16, b"1aF"), Some(0x1af));
+    assert_eq!(rt; number_of(10, b"18446744073709551615"), Some(u64::MAX));
+    assert_eq!(rt; number_of(10, b"18446744073709551616"), None);
+    assert_eq!(rt; number_of(8, b"18"), None);
+    assert_eq!(rt; end_of_strings(b"a\0b\0c"), 4);
+    assert_eq!(rt; end_of_strings(b"abc"), 0);
+    Ok(())
+}
+
+#[test]
+fn a_report_is_made_line_by_line(rt: HostRuntime) -> Result<(), Fail> {
+    let mut report = ReportBuilder::new(rt.alloc());
+    let paths = vec![in rt.alloc(); Bytes::from_slice(rt.alloc(), b"a.c")?]?;
+    report.add_event(paths.as_slice(), &Event::Start { line: 0, file: 0 })?;
+    report.add_item(b"undef", 12, b"A")?;
+    report.add_event(paths.as_slice(), &Event::End)?;
+    push_offset(&mut report.text, 255)?;
+    let text = report.finish().ok_or("too long")?;
+    let wanted: &[u8] = b"start 0 a.c\nundef 12 A\nend\n 0xff";
+    assert_eq!(rt; text.as_slice(), wanted);
     Ok(())
 }

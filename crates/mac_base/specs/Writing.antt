@@ -1,0 +1,20 @@
+-- The bytes that are written of a number (DWARF 5, 7.4 and 7.6).
+use Rattle.std.specs.Prelude.{ℕ, zero, suc, ◌+◌, ◌/◌, ◌%◌, ◌==◌, nat_lt, Bool, ◌||◌, if◌then◌else◌, List, [], ◌∷◌}
+
+-- at most so many digits of seven bits, the lowest first, where all but the last have their highest bit set
+abbrev pub seven_bit_digits : ℕ → ℕ → List ℕ
+seven_bit_digits zero n = []
+seven_bit_digits (suc k) n = if nat_lt n 128 then n ∷ [] else (128 + n % 128) ∷ seven_bit_digits k (n / 128)
+
+-- the shortest spelling of a number below 2^64 in ULEB128: it has at most ten digits
+unfoldable pub uleb_bytes : ℕ → List ℕ
+uleb_bytes n = seven_bit_digits 10 n
+
+-- a number in so many bytes, the lowest first
+abbrev pub fixed_bytes : ℕ → ℕ → List ℕ
+fixed_bytes zero n = []
+fixed_bytes (suc k) n = n % 256 ∷ fixed_bytes k (n / 256)
+
+-- how many bytes a number is written in
+abbrev pub is_width : ℕ → Bool
+is_width width = width == 1 || width == 2 || width == 4 || width == 8
