@@ -11,10 +11,10 @@ use Rattle.mac_base.specs.declared.extent.ExtentFault.TheVariants.{Cut, Length}
 abbrev pub bounded_by : ℕ → ℕ → Bool → ℕ → ℕ → Result Extent ExtentFault
 bounded_by section at wide start long = if nat_lt section (start + long) then Err (Cut at) else Ok (record { wide = wide; start = start; end = start + long })
 
--- behind ffffffff stands a length of 8 bytes
+-- after ffffffff comes a length of 8 bytes
 abbrev pub wide_extent : List ℕ → ℕ → ℕ → Result (ℕ × Input) CursorFault → Result Extent ExtentFault
-wide_extent section at behind (Ok long) = bounded_by (length section) at true long.1.at long.0
-wide_extent section at behind (Err fault) = Err (Cut behind)
+wide_extent section at after (Ok long) = bounded_by (length section) at true long.1.at long.0
+wide_extent section at after (Err fault) = Err (Cut after)
 
 -- a length of 4 bytes is below fffffff0, and the others up to fffffffe are reserved
 abbrev pub extent_by : List ℕ → ℕ → Result (ℕ × Input) CursorFault → Result Extent ExtentFault

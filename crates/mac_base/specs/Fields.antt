@@ -1,4 +1,4 @@
--- The fields of DWARF's sections (DWARF 5, 7.4 and 7.6): what stands at a place and where the next field begins, or the fault, which names the field's first byte.
+-- The fields of DWARF's sections (DWARF 5, 7.4 and 7.6): what is at a place and where the next field begins, or the fault, which names the field's first byte.
 use Rattle.std.specs.Prelude.{ℕ, ◌+◌, ◌*◌, ◌%◌, ◌^◌, ◌==◌, nat_lt, Bool, if◌then◌else◌, List, [], ◌∷◌, length, take, Option, None, Some, Result, Ok, Err, ℤ, pos, negsuc, ◌+ℤ◌, ◌-ℤ◌, ◌*ℤ◌}
 use Rattle.std.specs.Option.{option_map}
 use Rattle.mac_base.specs.Input.{Input, rest, ahead}
@@ -18,7 +18,7 @@ little_endian (b ∷ bs) = b + 256 * little_endian bs
 abbrev pub number_at : ℕ → Input → Result (ℕ × Input) CursorFault
 number_at n p = if nat_lt (length (rest p)) n then Err (Cut p.at) else Ok (little_endian (take n (rest p)), ahead p n)
 
--- the bytes of the LEB128 number in front: all up to and with the first below 128 (7.6)
+-- the bytes of the LEB128 number at the beginning: all up to and with the first below 128 (7.6)
 abbrev pub leb_digits : List ℕ → Option (List ℕ)
 leb_digits [] = None
 leb_digits (b ∷ bs) = if nat_lt b 128 then Some (b ∷ []) else option_map (λ digits. b ∷ digits) (leb_digits bs)

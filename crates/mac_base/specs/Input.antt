@@ -14,13 +14,13 @@ rest p = drop p.at p.bytes
 abbrev pub ahead : Input → ℕ → Input
 ahead p n = record p { at = p.at + n }
 
--- go on behind what was read, or stop at the fault
+-- go on after what was read, or stop at the fault
 infixl 10 ◌>>=◌
 abbrev pub ◌>>=◌ : {A B E : Type 0} → Result A E → (A → Result B E) → Result B E
 (Ok x) >>= f = f x
 (Err fault) >>= f = Err fault
 
--- A call that found the input old and left it new answers exactly what reading at old gives: the value, seen by view, with the place behind it, or the fault. A fault leaves the input as it was.
+-- A call that found the input old and left it new answers exactly what reading at old gives: the value, seen by view, with the place after it, or the fault. A fault leaves the input as it was.
 abbrev pub Gives : {X Y E : Type 0} → (X → Y) → Input → Input → Result X E → Result (Y × Input) E → Type 0
 Gives view old new (Ok x) reading = reading ≡ Ok (view x, new)
 Gives view old new (Err fault) reading = (reading ≡ Err fault) × (new ≡ old)

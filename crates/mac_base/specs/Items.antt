@@ -1,4 +1,4 @@
--- The macro information of a unit as a plain list, with imported units in their places (DWARF 5, 6.3.2 and 6.3.3).
+-- The macro information of a unit as a plain list, with imported macro units in their places (DWARF 5, 6.3.2 and 6.3.3).
 use Rattle.std.specs.Prelude.{ℕ, ◌+◌, ◌-◌, ◌==◌, nat_le, Bool, true, false, ◌&&◌, if◌then◌else◌, List, [], ◌∷◌, Option, None, Some}
 use Rattle.std.specs.Option.{option_map, option_and_then}
 
@@ -37,14 +37,14 @@ ends_or_reaches l (Undef line name) = nat_le l line
 ends_or_reaches l (Start line path) = nat_le l line
 ends_or_reaches l End = true
 
--- of a file, how many files that began in it are open behind an entry; none where the entry ends the file itself
+-- of a file, how many files that began in it are open after an entry; none where the entry ends the file itself
 abbrev pub depth_behind : {P : Type 0} → Item P → ℕ → Option ℕ
 depth_behind (Define line text) depth = Some depth
 depth_behind (Undef line name) depth = Some depth
 depth_behind (Start line path) depth = Some (depth + 1)
 depth_behind End depth = if depth == 0 then None else Some (depth - 1)
 
--- Of a file, in which so many files are open now, the entries that follow: the number of the first one that stands directly in the file and passes the test. None where the file ends before.
+-- Of a file, in which so many files are open now, the entries that follow: the number of the first one that is directly in the file and passes the test. None where the file ends before.
 abbrev pub first_inside : {P : Type 0} → (Item P → Bool) → List (Item P) → ℕ → Option ℕ
 first_inside test [] depth = None
 first_inside test (item ∷ items) depth =

@@ -30,7 +30,7 @@ pub record IsString (bytes text : List ℕ) : Type 0 where
   pub ends : bytes ≡ text ++ 0 ∷ []
   pub no_nul : AllByRecursion (λ b. b ≢ 0) text
 
--- these bytes stand between two places of one input
+-- these bytes are between two places of one input
 pub record Between (old new : Input) (bytes : List ℕ) : Type 0 where
   pub front : rest old ≡ bytes ++ rest new
   pub place : new ≡ ahead old (length bytes)

@@ -37,7 +37,7 @@ offset_at wide p = if wide then number_at 8 p else number_at 4 p
 abbrev pub as_value : {A : Type 0} → (A → Value) → Result (A × Input) CursorFault → Result (Value × Input) CursorFault
 as_value make read = read >>= λ x. Ok (make x.0, x.1)
 
--- so many bytes, behind a field that counts them
+-- so many bytes, after a field that counts them
 abbrev pub counted_by : Result (ℕ × Input) CursorFault → Result (Value × Input) CursorFault
 counted_by read = read >>= λ count. as_value Bytes (bytes_at count.0 count.1)
 

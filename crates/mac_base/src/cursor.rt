@@ -22,8 +22,8 @@ pub enum CursorFault {
     NoNul { at: u64 },
 }
 
-/// Reads the fields of a section one after another (DWARF 5, 7.4 and 7.6). Numbers stand lowest byte first. After a
-/// fault it stands where it stood.
+/// Reads the fields of a section one after another (DWARF 5, 7.4 and 7.6). In numbers the lowest byte is first. After a
+/// fault it is where it was.
 #[derive(Drop)]
 pub struct Cursor<'a> {
     bytes: &'a [u8],

@@ -9,9 +9,9 @@ use thiserror::Error;
 pub struct Extent {
     /// Whether the unit is in the 64-bit format, in which lengths and offsets have 8 bytes.
     pub wide: bool,
-    /// The first byte behind the length.
+    /// The first byte after the length.
     pub start: usize,
-    /// The byte behind the unit's last.
+    /// The byte after the unit's last.
     pub end: usize,
 }
 
@@ -45,14 +45,16 @@ pub fn extent_at(section: &[u8], at: usize) -> Result<Extent, ExtentFault>
     if length < 0xffff_ffff {
         return Err(ExtentFault::Length { at: at as u64 });
     }
-    let behind = cursor.at();
+    let after_mark = cursor.at();
     match cursor.u64() {
         Ok(length) => bounded(section, at, true, cursor.at(), length),
-        Err(_) => Err(ExtentFault::Cut { at: behind as u64 }),
+        Err(_) => Err(ExtentFault::Cut {
+            at: after_mark as u64,
+        }),
     }
 }
 
-/// The extent of a unit whose length was read, if the section has so many bytes behind it.
+/// The extent of a unit whose length was read, if the section has so many bytes after it.
 fn bounded(
     section: &[u8],
     at: usize,

@@ -1,8 +1,8 @@
 ghost use Rattle.std.specs.Prelude.{◌≡◌};
 ghost use Rattle.mac_base.specs.Forms.{form_by_code, layout_by_form};
 
-/// How an attribute's value is spelled (DWARF 5, 7.5.6). `DW_FORM_indirect` is none of them: it stands for the form
-/// that is named in front of the value.
+/// How an attribute's value is spelled (DWARF 5, 7.5.6). `DW_FORM_indirect` is none of them: it means the form
+/// that is named before the value.
 #[derive(Clone, Copy, Debug, PartialEq, Eq)]
 pub enum Form {
     Addr,

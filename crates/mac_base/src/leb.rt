@@ -3,7 +3,7 @@ ghost use Rattle.std.specs.Int.{w64};
 ghost use Rattle.std.specs.Option.{option_copied};
 ghost use Rattle.mac_base.specs.Fields.{leb_digits, unsigned_leb, signed_leb};
 
-/// The bytes of the LEB128 number in front.
+/// The bytes of the LEB128 number at the beginning.
 pub fn digits_of(rest: &[u8]) -> Option<&[u8]>
     ensures digits { option_copied result ≡ leb_digits rest.now }
     ensures within { IfSome result (λ digits. length digits.now ≤ length rest.now) }

@@ -3,7 +3,7 @@ ghost use Rattle.std.specs.Prelude.{◌≡◌, IfOk};
 use crate::frames::Frames;
 use crate::memory::NoMemory;
 
-/// A line of a file that stands open.
+/// A line of an open file.
 #[derive(Debug, Drop)]
 pub struct Place {
     /// The open files, the outermost first.

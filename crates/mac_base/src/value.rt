@@ -18,7 +18,7 @@ pub struct Sizes {
 /// What is spelled in a form.
 #[derive(Clone, Copy, Debug, PartialEq, Eq)]
 pub enum Value<'a> {
-    /// Nothing that stands there.
+    /// No bytes.
     Nothing,
     /// A number, an offset or an index.
     Number(u64),
@@ -31,7 +31,7 @@ pub enum Value<'a> {
 }
 
 /// Reads a value in a form. A fault is that of the field: of a block the length is one, and the bytes are the next. It
-/// leaves the cursor where it stood.
+/// leaves the cursor where it was.
 pub fn read_value<'a>(
     cursor: &mut Cursor<'a>,
     form: Form,
