@@ -16,7 +16,8 @@ use Rattle.unit_header.specs.Faults.{field}
 use Rattle.unit_header.specs.Rows.{Row, rows_from}
 use Rattle.unit_header.specs.Header.{Header}
 use Rattle.unit_header.specs.Spelling.{IsTable, IsTablePart, IsLinePart, IsHeader, flags_of}
-use Rattle.unit_header.specs.Reading.{behind_rows, table_part_at, line_part_at, behind_flags, flags_at, header_at}
+use Rattle.unit_header.specs.Reading.{after_rows, table_part_at, line_part_at, after_flags, flags_at, header_at}
+use Rattle.unit_header.proofs.AllowedLemmas.{allowed_rows, allowed_after}
 use Rattle.unit_header.proofs.TableLemmas.{field_ok, rows_takes, rows_again, same_between}
 
 line_takes : (wide lined : Bool) (p q : Input) (line : Option ℕ) → line_part_at wide lined p ≡ Ok (line, q) → (bytes : List ℕ) × Between p q bytes × IsLinePart wide line bytes × (is_some line ≡ lined)
@@ -40,13 +41,13 @@ table_takes true p q rows is =
     let n = count.0.0 in
     let a = count.0.1 in
     let byte = byte_at-takes p a n (field_ok (number_at 1 p) count.0 count.1) in
-    let behind = bind_ok (behind_rows [] n a) _ (rows, q) count.2 in
+    let behind = bind_ok (after_rows [] n a) _ (rows, q) count.2 in
     let found = rows_takes n [] a behind.0 behind.1 in
     let same = same_ok {E = UnitFault} (rows_from n a, behind.0) (rows, q) behind.2 in
     subst (λ (x : List Row × Input). (bytes : List ℕ) × Between p x.1 bytes × IsTable bytes x.0) same (
       n ∷ found.0,
       between_both p a behind.0 (n ∷ []) found.0 byte found.1,
-      record { body = found.0; spelled = ap (λ m. m ∷ found.0) (sym found.3); are_rows = found.2; allowed = found.4 },
+      record { body = found.0; spelled = ap (λ m. m ∷ found.0) (sym found.3); are_rows = found.2; allowed = allowed_rows (rows_from n a) found.4 },
     )
 table_takes false p q rows is =
     let same = same_ok {E = UnitFault} ([], p) (rows, q) is in
@@ -56,7 +57,7 @@ table_again : (tabled : Bool) (rows : List Row) (p q : Input) (bytes : List ℕ)
 table_again true rows p q bytes between is =
     let parts = between_cut p q (length rows ∷ []) is.body (subst (λ (xs : List ℕ). Between p q xs) is.spelled between) in
     let a = ahead p 1 in
-    let behind = rows_again rows [] a q is.body parts.1 is.are_rows is.allowed in
+    let behind = rows_again rows [] a q is.body parts.1 is.are_rows (allowed_after rows is.allowed) in
     rw (byte_at-again p a (length rows) parts.0, behind.0) (ap (λ (rs : List Row). Ok (rs, q)) behind.1)
 table_again false rows p q bytes between is =
     let here = same_between p q (subst (λ (xs : List ℕ). Between p q xs) is.0 between) in
@@ -75,7 +76,7 @@ flags_by_bits (suc (suc (suc (suc (suc (suc (suc zero))))))) small = refl
 flags_by_bits (suc (suc (suc (suc (suc (suc (suc (suc f)))))))) small = absurd (omega arith)
 
 -- and the bits are those of the flags
-flags_at_bits : (wide lined tabled : Bool) (at : ℕ) (p : Input) → (if ltb (flags_of wide lined tabled) 8 then behind_flags (eqb (flags_of wide lined tabled % 2) 1) (eqb (flags_of wide lined tabled / 2 % 2) 1) (eqb (flags_of wide lined tabled / 4 % 2) 1) p else Err (record { at = at; what = Flags })) ≡ behind_flags wide lined tabled p
+flags_at_bits : (wide lined tabled : Bool) (at : ℕ) (p : Input) → (if ltb (flags_of wide lined tabled) 8 then after_flags (eqb (flags_of wide lined tabled % 2) 1) (eqb (flags_of wide lined tabled / 2 % 2) 1) (eqb (flags_of wide lined tabled / 4 % 2) 1) p else Err (record { at = at; what = Flags })) ≡ after_flags wide lined tabled p
 flags_at_bits true true true at p = refl
 flags_at_bits true true false at p = refl
 flags_at_bits true false true at p = refl
@@ -96,7 +97,7 @@ record Parts (wide lined tabled : Bool) (p q : Input) (h : Header) : Type 0 wher
   is_line : IsLinePart h.wide h.line line
   is_table : IsTablePart tabled table h.operands
 
-parts_take : (wide lined tabled : Bool) (p q : Input) (h : Header) → behind_flags wide lined tabled p ≡ Ok (h, q) → Parts wide lined tabled p q h
+parts_take : (wide lined tabled : Bool) (p q : Input) (h : Header) → after_flags wide lined tabled p ≡ Ok (h, q) → Parts wide lined tabled p q h
 parts_take wide lined tabled p q h is =
     let line = bind_ok (line_part_at wide lined p) _ (h, q) is in
     let table = bind_ok (table_part_at tabled line.0.1) _ (h, q) line.2 in
@@ -115,7 +116,7 @@ parts_take wide lined tabled p q h is =
       is_table = t.2;
     })
 
-parts_again : (h : Header) (tabled : Bool) (p q : Input) (line table : List ℕ) → Between p q (line ++ table) → h.version ≡ 5 → IsLinePart h.wide h.line line → IsTablePart tabled table h.operands → behind_flags h.wide (is_some h.line) tabled p ≡ Ok (h, q)
+parts_again : (h : Header) (tabled : Bool) (p q : Input) (line table : List ℕ) → Between p q (line ++ table) → h.version ≡ 5 → IsLinePart h.wide h.line line → IsTablePart tabled table h.operands → after_flags h.wide (is_some h.line) tabled p ≡ Ok (h, q)
 parts_again h tabled p q line table between version is_line is_table =
     let cut = between_cut p q line table between in
     let a = ahead p (length line) in

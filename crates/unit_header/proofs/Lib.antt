@@ -1,3 +1,5 @@
 pub mod RowLemmas
+pub mod AllowedLemmas
 pub mod TableLemmas
 pub mod HeaderLemmas
+pub mod WritingLemmas

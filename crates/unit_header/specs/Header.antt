@@ -20,6 +20,6 @@ abbrev pub forms_or : Option (List ℕ) → Option (List ℕ) → Option (List �
 forms_or (Some standard) listed = Some standard
 forms_or None listed = listed
 
--- The codes of the forms of an opcode's operands under a header, for standard and listed opcodes alike. 0 closes a unit, and an opcode that is neither has none.
+-- The codes of the forms of an opcode's operands under a header, for standard and listed opcodes alike. 0 closes a macro unit, and an opcode that is neither has none.
 abbrev pub forms_of : Header → ℕ → Option (List ℕ)
 forms_of h opcode = if opcode == 0 then None else forms_or (standard_forms (opcode_by_byte opcode)) (listed_forms h.operands opcode)

@@ -4,4 +4,5 @@ pub mod Rows
 pub mod Header
 pub mod Spelling
 pub mod Reading
+pub mod Writing
 pub mod Laws

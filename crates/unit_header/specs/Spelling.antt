@@ -22,7 +22,7 @@ pub record IsTable (bytes : List ℕ) (rows : List Row) : Type 0 where
   pub body : List ℕ
   pub spelled : bytes ≡ length rows ∷ body
   pub are_rows : AreRows body rows
-  pub allowed : AreAllowed [] rows
+  pub allowed : AreAllowed rows
 
 -- the operand table, where the flags say that there is one
 abbrev pub IsTablePart : Bool → List ℕ → List Row → Type 0

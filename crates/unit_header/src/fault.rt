@@ -34,10 +34,10 @@ pub enum UnitKind {
     /// An offset of a string names none.
     #[error("no string stands at an offset")]
     StrRange,
-    /// A unit's offset is not inside the section.
+    /// The offset of a macro unit is not inside the section.
     #[error("no unit stands at an offset")]
     ImportRange,
-    /// The offset of a unit's line table is not inside `.debug_line`.
+    /// The offset of a macro unit's line table is not inside `.debug_line`.
     #[error("no line table stands at an offset")]
     LineRange,
     /// A string is named by an index, and the root has no base of string offsets.
@@ -46,25 +46,25 @@ pub enum UnitKind {
     /// The index of a string is outside `.debug_str_offsets`.
     #[error("the index of a string is out of range")]
     StrxRange,
-    /// A file begins, and neither the unit nor the root has a line table.
+    /// A file begins, and neither the macro unit nor the root has a line table.
     #[error("there is no line table")]
     NoLineTable,
     /// The index of a file is not below the number of the line table's files.
     #[error("the line table has no such file")]
     FileIndex,
-    /// A unit imports one that it is imported by, or itself.
+    /// A macro unit imports one that it is imported by, or itself.
     #[error("a unit imports itself")]
     ImportCycle,
-    /// A file ends, and none is open in the unit.
+    /// A file ends, and none is open in the macro unit.
     #[error("a file ends that did not begin")]
     EndWithoutStart,
-    /// A unit ends, and a file is open in it.
+    /// A macro unit ends, and a file is open in it.
     #[error("a file does not end")]
     StartWithoutEnd,
     /// An entry refers to a supplementary file.
     #[error("a supplementary file is not read")]
     Supplementary,
-    /// With imported units in their places there are more than 16,777,216 entries.
+    /// With imported macro units in their places there are more than 16,777,216 entries.
     #[error("there are too many entries")]
     TooManyEntries,
 }

@@ -23,7 +23,7 @@ pub struct Header<'a> {
 
 impl<'a> Header<'a> {
     /// The codes of the forms of an opcode's operands, for standard and listed opcodes alike; `None` exactly where it is
-    /// neither, and for 0, which closes a unit.
+    /// neither, and for 0, which closes a macro unit.
     pub fn forms(&self, opcode: u8) -> Option<&'a [u8]>
         ensures { option_copied result ≡ forms_of (header_of self.now) opcode }
     {
@@ -37,7 +37,7 @@ impl<'a> Header<'a> {
     }
 }
 
-/// Reads the header of a unit. A fault leaves the cursor where it stood.
+/// Reads the header of a macro unit. A fault leaves the cursor where it was.
 #[tactic(auto, unfolding(crate::specs::Reading::header_at))]
 pub fn read_header<'a>(cursor: &mut Cursor<'a>) -> Result<Header<'a>, UnitFault>
     ensures { Gives header_of cursor.old cursor.new result (header_at cursor.old) }

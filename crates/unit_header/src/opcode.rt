@@ -22,7 +22,7 @@ pub enum Opcode {
 }
 
 impl Opcode {
-    /// The opcode of a byte. 0 is none: it closes a unit.
+    /// The opcode of a byte. 0 is none: it closes a macro unit.
     pub fn of(byte: u8) -> Opcode
         ensures { result ≡ opcode_by_byte byte }
     {

@@ -6,7 +6,7 @@ ghost use Rattle.unit_header.specs.Rows.{rows_from, row_at, listed_forms};
 use mac_base::{Cursor, CursorFault};
 use std::marker::Model;
 
-/// The operand table of a macro unit (DWARF 5, 6.3.1.3), as it stands in the section; without rows where the unit has none.
+/// The operand table of a macro unit (DWARF 5, 6.3.1.3), as it is in the section; without rows where the macro unit has none.
 #[derive(Drop)]
 pub struct Operands<'a> {
     count: u8,

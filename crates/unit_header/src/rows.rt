@@ -1,6 +1,6 @@
 ghost use Rattle.std.specs.Prelude.{◌≡◌, ◌==◌, ◌||◌, [], slice_index_or, false};
 ghost use Rattle.unit_header.specs.Opcodes as spec;
-ghost use Rattle.unit_header.specs.Reading.{Passes, behind_rows, behind_count, behind_own, behind_known};
+ghost use Rattle.unit_header.specs.Reading.{Passes, after_rows, after_count, after_own, after_known};
 
 use crate::fault::{UnitFault, UnitKind};
 use crate::opcode::Opcode;
@@ -8,7 +8,7 @@ use mac_base::{Cursor, Form, form_of};
 
 /// Goes over the rows of an operand table, and tests each (DWARF 5, 6.3.1.3).
 pub fn pass_rows(cursor: &mut Cursor<'_>, count: u8) -> Result<(), UnitFault>
-    ensures { Passes cursor.new result (behind_rows [] count cursor.old) }
+    ensures { Passes cursor.new result (after_rows [] count cursor.old) }
 {
     let mut seen = [false; 256];
     for _ in 0..count {
@@ -35,7 +35,7 @@ fn is_barred(marks: &[bool; 256], opcode: u8) -> bool
 
 /// Goes over the number of a row's forms, and the forms. The row begins at `at`.
 fn pass_count(cursor: &mut Cursor<'_>, at: u64, opcode: u8) -> Result<(), UnitFault>
-    ensures { Passes cursor.new result (behind_count at opcode cursor.old) }
+    ensures { Passes cursor.new result (after_count at opcode cursor.old) }
 {
     let count = cursor.uleb()?;
     let Some(own) = Opcode::of(opcode).forms() else {
@@ -52,7 +52,7 @@ fn pass_count(cursor: &mut Cursor<'_>, at: u64, opcode: u8) -> Result<(), UnitFa
 
 /// Goes over form bytes that have to be these.
 fn pass_own(cursor: &mut Cursor<'_>, at: u64, own: &[u8]) -> Result<(), UnitFault>
-    ensures { Passes cursor.new result (behind_own at own.now cursor.old) }
+    ensures { Passes cursor.new result (after_own at own.now cursor.old) }
 {
     for code in own {
         if cursor.u8()? != *code {
@@ -67,7 +67,7 @@ fn pass_own(cursor: &mut Cursor<'_>, at: u64, own: &[u8]) -> Result<(), UnitFaul
 
 /// Goes over so many form bytes that macro entries have to have.
 fn pass_known(cursor: &mut Cursor<'_>, count: u64) -> Result<(), UnitFault>
-    ensures { Passes cursor.new result (behind_known count cursor.old) }
+    ensures { Passes cursor.new result (after_known count cursor.old) }
 {
     for _ in 0..count {
         let at = cursor.at() as u64;
