@@ -20,7 +20,7 @@ use Rattle.unit_header.specs.Header.{Header, forms_of, forms_or}
 use Rattle.unit_header.proofs.TableLemmas.{field_ok}
 use Rattle.macro_opcodes.specs.Entry.{Operand, Entry}
 use Rattle.macro_opcodes.specs.Spells.{sizes_of, IsOfForm, AreValues, said_by, IsEntry}
-use Rattle.macro_opcodes.specs.Reading.{value_in, values_at, said_at, made_of, behind_opcode, entry_at}
+use Rattle.macro_opcodes.specs.Reading.{value_in, values_at, said_at, made_of, after_opcode, entry_at}
 
 value_takes : (sizes : Sizes) (form : Option Form) (p q : Input) (v : Value) → value_in sizes form p ≡ Ok (v, q) → (bytes : List ℕ) × Between p q bytes × IsOfForm sizes form bytes v
 value_takes sizes None p q v is = cc
@@ -77,7 +77,7 @@ made_takes at opcode said e q is =
     let entry : made ≡ e = same_some made e (ap (λ (x : Option Entry × Input). x.0) same) in
     (ap (λ (x : Entry). x.at) entry, ap (λ (x : Entry). x.opcode) entry, ap (λ (x : Entry). (x.line, x.operand)) entry, ap (λ (x : Option Entry × Input). x.1) same)
 
-behind_takes : (h : Header) (at : ℕ) (opcode : ℕ × Input) (e : Entry) (q : Input) → behind_opcode h at opcode ≡ Ok (Some e, q) → (bytes : List ℕ) × Between opcode.1 q bytes × IsEntry h (opcode.0 ∷ bytes) e × (e.at ≡ at)
+behind_takes : (h : Header) (at : ℕ) (opcode : ℕ × Input) (e : Entry) (q : Input) → after_opcode h at opcode ≡ Ok (Some e, q) → (bytes : List ℕ) × Between opcode.1 q bytes × IsEntry h (opcode.0 ∷ bytes) e × (e.at ≡ at)
 behind_takes h at opcode e q is =
     elim (chosen (eqb opcode.0 0) _ _ _ is) [
       | inl closed ↦ absurd (none_is_no_some e (ap (λ (x : Option Entry × Input). x.0) (same_ok (None, opcode.1) (Some e, q) closed.1)))
@@ -88,7 +88,7 @@ behind_takes h at opcode e q is =
           (found.2, subst (λ (z : Input). Between opcode.1 z found.2) made.3 found.4, (made.1, found.0, found.1, found.3, found.5, sym made.2 ∙ found.6), sym made.0)
     ]
 
-behind_closes : (h : Header) (at : ℕ) (opcode : ℕ × Input) (q : Input) → behind_opcode h at opcode ≡ Ok (None, q) → (opcode.0 ≡ 0) × (opcode.1 ≡ q)
+behind_closes : (h : Header) (at : ℕ) (opcode : ℕ × Input) (q : Input) → after_opcode h at opcode ≡ Ok (None, q) → (opcode.0 ≡ 0) × (opcode.1 ≡ q)
 behind_closes h at opcode q is =
     elim (chosen (eqb opcode.0 0) _ _ _ is) [
       | inl closed ↦ (eqb-true opcode.0 0 closed.0, ap (λ (x : Option Entry × Input). x.1) (same_ok (None, opcode.1) (None, q) closed.1))
@@ -101,7 +101,7 @@ behind_closes h at opcode q is =
 pub entry_takes : (h : Header) (p q : Input) (e : Entry) → entry_at h p ≡ Ok (Some e, q) → (bytes : List ℕ) × Between p q bytes × IsEntry h bytes e × (e.at ≡ p.at)
 unfolding entry_at
 entry_takes h p q e is =
-    let first = bind_ok (field (number_at 1 p)) (behind_opcode h p.at) (Some e, q) is in
+    let first = bind_ok (field (number_at 1 p)) (after_opcode h p.at) (Some e, q) is in
     let byte = byte_at-takes p first.0.1 first.0.0 (field_ok (number_at 1 p) first.0 first.1) in
     let found = behind_takes h p.at first.0 e q first.2 in
     (first.0.0 ∷ found.0, between_both p first.0.1 q (first.0.0 ∷ []) found.0 byte found.1, found.2, found.3)
@@ -110,7 +110,7 @@ entry_takes h p q e is =
 pub close_takes : (h : Header) (p q : Input) → entry_at h p ≡ Ok (None, q) → Between p q (0 ∷ [])
 unfolding entry_at
 close_takes h p q is =
-    let first = bind_ok (field (number_at 1 p)) (behind_opcode h p.at) (None, q) is in
+    let first = bind_ok (field (number_at 1 p)) (after_opcode h p.at) (None, q) is in
     let byte = byte_at-takes p first.0.1 first.0.0 (field_ok (number_at 1 p) first.0 first.1) in
     let found = behind_closes h p.at first.0 q first.2 in
     subst (λ (z : Input). Between p z (0 ∷ [])) found.1 (subst (λ (b : ℕ). Between p first.0.1 (b ∷ [])) found.0 byte)
@@ -142,7 +142,7 @@ entry_again h p q (opcode ∷ bytes) e between is here =
     let byte = byte_at-again p (ahead p 1) opcode parts.0 in
     let some = no_forms_at_zero h opcode is.1 is.3 in
     let said = said_again (sizes_of h) p.at (opcode_by_byte opcode) (ahead p 1) q is.1 is.2 bytes parts.1 is.4 in
-    let first : entry_at h p ≡ behind_opcode h p.at (opcode, ahead p 1) = rw byte refl in
+    let first : entry_at h p ≡ after_opcode h p.at (opcode, ahead p 1) = rw byte refl in
     let made : made_of p.at opcode (said_by (opcode_by_byte opcode) is.2, q) ≡ Ok (Some e, q) = rw (← here) (made_again opcode (said_by (opcode_by_byte opcode) is.2) e q is.0 is.5) in
     first ∙ behind_again (eqb opcode 0) (sizes_of h) p.at (opcode_by_byte opcode) opcode (ahead p 1) q (forms_of h opcode) is.1 (said_by (opcode_by_byte opcode) is.2) some is.3 said ∙ made
 

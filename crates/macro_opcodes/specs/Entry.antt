@@ -25,7 +25,7 @@ pub data Operand : Type 0 where
   -- values that the operand table lists
   Other : Operand
 
--- an entry: where its opcode stands, the opcode, the line (0 where the opcode has none) and the rest
+-- an entry: where its opcode is, the opcode, the line (0 where the opcode has none) and the rest
 pub record Entry : Type 0 where
   pub at : ℕ
   pub opcode : ℕ

@@ -1,4 +1,4 @@
--- What reading the entries of a macro unit gives at each place: the entry and the place behind it, or the first fault with its byte.
+-- What reading the entries of a macro unit gives at each place: the entry and the place after it, or the first fault with its byte.
 use Rattle.std.specs.Prelude.{◌≡◌, ℕ, ◌==◌, if◌then◌else◌, List, [], ◌∷◌, Option, Some, None, Result, Ok, Err}
 use Rattle.mac_base.specs.Input.{Input, ◌>>=◌}
 use Rattle.mac_base.specs.Fields.{number_at}
@@ -25,7 +25,7 @@ abbrev pub values_at : Sizes → List ℕ → Input → Result (List Value × In
 values_at sizes [] p = Ok ([], p)
 values_at sizes (code ∷ codes) p = value_in sizes (form_by_code code) p >>= λ value. values_at sizes codes value.1 >>= λ values. Ok (value.0 ∷ values.0, values.1)
 
--- the line and the rest of an entry whose opcode stands at `at`, by the codes of its forms
+-- the line and the rest of an entry whose opcode is at `at`, by the codes of its forms
 abbrev pub said_at : Sizes → ℕ → Opcode → Input → Option (List ℕ) → Result ((ℕ × Operand) × Input) UnitFault
 said_at sizes at opcode p None = Err (record { at = at; what = UnknownOpcode })
 said_at sizes at opcode p (Some codes) = values_at sizes codes p >>= λ values. Ok (said_by opcode values.0, values.1)
@@ -34,21 +34,21 @@ said_at sizes at opcode p (Some codes) = values_at sizes codes p >>= λ values. 
 abbrev pub made_of : ℕ → ℕ → (ℕ × Operand) × Input → Result (Option Entry × Input) UnitFault
 made_of at opcode said = Ok (Some (record { at = at; opcode = opcode; line = said.0.0; operand = said.0.1 }), said.1)
 
--- what follows an opcode that stands at `at`
-abbrev pub behind_opcode : Header → ℕ → ℕ × Input → Result (Option Entry × Input) UnitFault
-behind_opcode h at opcode =
+-- what follows an opcode at `at`
+abbrev pub after_opcode : Header → ℕ → ℕ × Input → Result (Option Entry × Input) UnitFault
+after_opcode h at opcode =
     if opcode.0 == 0 then Ok (None, opcode.1) else (said_at (sizes_of h) at (opcode_by_byte opcode.0) opcode.1 (forms_of h opcode.0) >>= made_of at opcode.0)
 
 -- the entry at a place, or nothing at the closing 0
 unfoldable pub entry_at : Header → Input → Result (Option Entry × Input) UnitFault
-entry_at h p = field (number_at 1 p) >>= behind_opcode h p.at
+entry_at h p = field (number_at 1 p) >>= after_opcode h p.at
 
--- these entries are read one after another from p on, and q is behind them
+-- these entries are read one after another from p on, and q is after them
 abbrev pub AreRead : Header → Input → List Entry → Input → Type 0
 AreRead h p [] q = p ≡ q
 AreRead h p (e ∷ es) q = (r : Input) × (entry_at h p ≡ Ok (Some e, r)) × AreRead h r es q
 
--- what a call that goes over values answers: the place behind them, or the fault
+-- what a call that goes over values answers: the place after them, or the fault
 abbrev pub Skips : Input → Result (Unit {0}) UnitFault → Result (List Value × Input) UnitFault → Type 0
 Skips new (Ok done) reading = (values : List Value) × (reading ≡ Ok (values, new))
 Skips new (Err fault) reading = reading ≡ Err fault

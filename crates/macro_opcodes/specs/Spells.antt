@@ -70,7 +70,7 @@ abbrev pub AreEntries : Header → ℕ → List ℕ → List Entry → Type 0
 AreEntries h at bytes [] = bytes ≡ []
 AreEntries h at bytes (e ∷ es) = (front back : List ℕ) × (bytes ≡ front ++ back) × (e.at ≡ at) × IsEntry h front e × AreEntries h (at + length front) back es
 
--- A unit stands at the offset of the section: its header, its entries, and the byte 0, behind which `end` is.
+-- A macro unit is at the offset of the section: its header, its entries, and the byte 0, after which `end` is.
 pub record Spells (section : List ℕ) (offset : ℕ) (h : Header) (entries : List Entry) (end : ℕ) : Type 0 where
   pub header : List ℕ
   pub body : List ℕ

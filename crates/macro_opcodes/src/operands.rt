@@ -11,7 +11,7 @@ use crate::entry::Operand;
 use mac_base::{Cursor, Sizes, form_of, read_offset, read_value};
 use unit_header::{Header, Opcode, UnitFault, UnitKind};
 
-/// The line and the rest of an entry, behind its opcode, which stands at `at`.
+/// The line and the rest of an entry, after its opcode, which is at `at`.
 pub fn read_operands<'a>(
     cursor: &mut Cursor<'a>,
     header: &Header<'_>,

@@ -11,8 +11,8 @@ use mac_base::{Cursor, Steps};
 use std::sync::ledger::Ledger;
 use unit_header::{Header, UnitFault};
 
-/// Reads the next entry, or `None` at the 0 that closes the unit (DWARF 5, 6.3.2). A fault leaves the cursor where it
-/// stood. Each call takes a step.
+/// Reads the next entry, or `None` at the 0 that closes the macro unit (DWARF 5, 6.3.2). A fault leaves the cursor where it
+/// was. Each call takes a step.
 #[tactic(auto, unfolding(crate::specs::Reading::entry_at))]
 pub fn read_entry<'a, L: Ledger>(
     cursor: &mut Cursor<'a>,
