@@ -5,6 +5,7 @@ mod entry;
 mod fault;
 mod format;
 mod header;
+mod laws;
 mod path;
 mod sections;
 mod tables;
@@ -12,5 +13,6 @@ mod tables;
 mod tests;
 
 pub use fault::{LineFault, LineKind};
+pub use laws::files_are_exact;
 pub use sections::LineTables;
 pub use tables::{files_at, read_files};
