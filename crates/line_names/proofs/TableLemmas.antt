@@ -1,22 +1,21 @@
 -- A line table that is read is spelled at its offset, and one that is spelled there is read.
-use Rattle.std.proofs.Common.{◌≡◌, ◌⊎◌, ℕ, ◌+◌, ◌-◌, ◌<◌, ◌≤◌, Bool, true, false, ltb, List, [], ◌∷◌, ◌++◌, length, take, drop, Result, Ok, Err, inl, inr, refl, ap, subst, ◌∙◌, sym, arith, append_assoc, length-append, length-drop}
-use Rattle.std.proofs.lemmas.List.{take_at, drop_at, drop-drop, length-take-le, take-append-drop, drop-append-le}
-use borrow.Author.Tests.{ltb-true, ltb-false, lt-ltb, le-ltb}
+use Rattle.std.proofs.Common.{◌≡◌, ℕ, ◌+◌, ◌-◌, ◌<◌, ◌≤◌, Bool, List, [], ◌∷◌, ◌++◌, length, take, drop, Result, Ok, Err, refl, ap, subst, ◌∙◌, sym, arith, append_assoc, length-append, length-drop}
+use Rattle.std.specs.List.{AllByRecursion}
+use Rattle.std.proofs.lemmas.List.{take_at, drop_at, length-take-le, take-append-drop, drop-append-le}
+use borrow.Author.Tests.{le-ltb}
 use Rattle.mac_base.specs.Input.{Input, rest, ahead}
-use Rattle.mac_base.specs.Fields.{number_at}
-use Rattle.mac_base.specs.Spelling.{IsFixed, Between}
-use Rattle.mac_base.specs.declared.cursor.CursorFault.{CursorFault}
+use Rattle.mac_base.specs.LengthSpelling.{IsLength}
 use Rattle.mac_base.specs.declared.extent.Extent.{Extent}
 use Rattle.mac_base.specs.declared.extent.ExtentFault.{ExtentFault}
-use Rattle.mac_base.specs.declared.extent.ExtentFault.TheVariants.{Cut, Length}
-use Rattle.mac_base.specs.Extents.{bounded_by, wide_extent, extent_by, extent_of}
-use Rattle.mac_base.proofs.Choices.{bind_ok, same_ok, guarded_not, chosen}
-use Rattle.mac_base.proofs.InputLemmas.{between_both, between_cut, between_front, number_at-takes, number_at-again}
+use Rattle.mac_base.specs.Extents.{bounded_by, extent_of}
+use Rattle.mac_base.proofs.Choices.{bind_ok, same_ok}
+use Rattle.mac_base.proofs.InputLemmas.{between_front}
+use Rattle.mac_base.proofs.LengthLemmas.{length-takes, length-again}
 use Rattle.line_names.specs.declared.fault.LineFault.{LineFault}
 use Rattle.line_names.specs.Faults.{extent_field}
 use Rattle.line_names.specs.Entries.{Tables}
 use Rattle.line_names.specs.Files.{unit_at, fields_of, files_of}
-use Rattle.line_names.specs.Spelling.{StringSections, IsBody, IsLength, IsTable, IsAt}
+use Rattle.line_names.specs.Spelling.{StringSections, IsBody, IsTable, IsAt}
 use Rattle.line_names.specs.Laws.{strings_in}
 use Rattle.line_names.proofs.BodyLemmas.{body_takes, body_again}
 
@@ -24,108 +23,52 @@ extent_ok : {A : Type 0} (r : Result A ExtentFault) (x : A) → extent_field r �
 extent_ok (Ok y) x is = cc
 extent_ok (Err e) x is = cc
 
--- the length of a unit that is in the section
-record TookLength (section : List ℕ) (at : ℕ) (e : Extent) : Type 0 where
-  bytes : List ℕ
-  between : Between (record { bytes = section; at = at }) (record { bytes = section; at = e.start }) bytes
-  is_length : IsLength e.wide bytes (e.end - e.start)
-  ordered : e.start ≤ e.end
-  within : e.end ≤ length section
-
-bounded_takes : (section at : ℕ) (wide : Bool) (start long : ℕ) (e : Extent) → bounded_by section at wide start long ≡ Ok e → (start + long ≤ section) × (record { wide = wide; start = start; end = start + long } ≡ e)
-bounded_takes section at wide start long e is =
-    let made : Extent = record { wide = wide; start = start; end = start + long } in
-    let parts = guarded_not (ltb section (start + long)) (Ok made) e (Cut at) is in
-    (ltb-false section (start + long) parts.0, same_ok {E = ExtentFault} made e parts.1)
-
--- a length that was read, of a unit that is in the section
-took : (section : List ℕ) (at : ℕ) (wide : Bool) (m : Input) (long : ℕ) (bytes : List ℕ) (e : Extent) → Between (record { bytes = section; at = at }) m bytes → IsLength wide bytes long → bounded_by (length section) at wide m.at long ≡ Ok e → TookLength section at e
-took section at wide m long bytes e between is_length is =
-    let parts = bounded_takes (length section) at wide m.at long e is in
-    let difference : long ≡ m.at + long - m.at = omega arith in
-    let here : m ≡ record { bytes = section; at = m.at } = ap (λ (z : Input). record { bytes = z.bytes; at = m.at }) between.place in
-    subst (TookLength section at) parts.1 (record {
-      bytes = bytes;
-      between = subst (λ (z : Input). Between (record { bytes = section; at = at }) z bytes) here between;
-      is_length = subst (IsLength wide bytes) difference is_length;
-      ordered = omega arith;
-      within = parts.0;
-    })
-
-wide_takes : (section : List ℕ) (at behind mark : ℕ) (m : Input) (escape : List ℕ) (r : Result (ℕ × Input) CursorFault) (e : Extent) → Between (record { bytes = section; at = at }) m escape → IsFixed 4 escape mark → 0xffff_ffff ≤ mark → number_at 8 m ≡ r → wide_extent section at behind r ≡ Ok e → TookLength section at e
-wide_takes section at behind mark m escape (Err fault) e between fixed high read is = cc
-wide_takes section at behind mark m escape (Ok long) e between fixed high read is =
-    let found = number_at-takes 8 m long.1 long.0 read in
-    took section at true long.1 long.0 (escape ++ found.0) e (between_both (record { bytes = section; at = at }) m long.1 escape found.0 between found.1) (escape, found.0, mark, refl {a = escape ++ found.0}, fixed, high, found.2) is
-
-extent_takes : (section : List ℕ) (at : ℕ) (r : Result (ℕ × Input) CursorFault) (e : Extent) → number_at 4 (record { bytes = section; at = at }) ≡ r → extent_by section at r ≡ Ok e → TookLength section at e
-extent_takes section at (Err fault) e read is = cc
-extent_takes section at (Ok long) e read is =
-    let found = number_at-takes 4 (record { bytes = section; at = at }) long.1 long.0 read in
-    elim (chosen (ltb long.0 0xffff_fff0) _ _ (Ok e) is) [
-      | inl short ↦ took section at false long.1 long.0 found.0 e found.1 (found.2, ltb-true long.0 0xffff_fff0 short.0) short.1
-      | inr other ↦
-          elim (chosen (ltb long.0 0xffff_ffff) _ _ (Ok e) other.1) [
-            | inl reserved ↦ let no : Err (Length at) ≡ Ok e = reserved.1 in cc
-            | inr escape ↦ wide_takes section at long.1.at long.0 long.1 found.0 (number_at 8 long.1) e found.1 found.2 (ltb-false long.0 0xffff_ffff escape.0) refl escape.1
-          ]
-    ]
-
-bounded_again : (section at : ℕ) (wide : Bool) (start long : ℕ) → start + long ≤ section → bounded_by section at wide start long ≡ Ok (record { wide = wide; start = start; end = start + long })
-bounded_again section at wide start long within = rw (le-ltb section (start + long) within) refl
-
-above : (mark : ℕ) → 0xffff_ffff ≤ mark → 0xffff_fff0 ≤ mark
-above mark high = omega arith
-
-extent_again : (section : List ℕ) (at : ℕ) (wide : Bool) (m : Input) (bytes : List ℕ) (long : ℕ) → Between (record { bytes = section; at = at }) m bytes → IsLength wide bytes long → m.at + long ≤ length section → extent_of section at ≡ Ok (record { wide = wide; start = m.at; end = m.at + long })
-extent_again section at false m bytes long between is within =
-    rw (number_at-again 4 (record { bytes = section; at = at }) m bytes long between is.0, lt-ltb long 0xffff_fff0 is.1) (bounded_again (length section) at false m.at long within)
-extent_again section at true m bytes long between is within =
-    let p : Input = record { bytes = section; at = at } in
-    let cut = between_cut p m is.0 is.1 (subst (Between p m) is.3 between) in
-    let a = ahead p (length is.0) in
-    let high : 0xffff_fff0 ≤ is.2 = above is.2 is.5 in
-    rw (number_at-again 4 p a is.0 is.2 cut.0 is.4, le-ltb is.2 0xffff_fff0 high, le-ltb is.2 0xffff_ffff is.5, number_at-again 8 a m is.1 long cut.1 is.6) (bounded_again (length section) at true m.at long within)
-
 -- the bytes of a unit, and what follows it
 cut_at : (xs : List ℕ) (start end : ℕ) → start ≤ end → end ≤ length xs → drop start xs ≡ drop start (take end xs) ++ drop end xs
 cut_at xs start end ordered within =
     let inside : start ≤ length (take end xs) = omega (arith, length-take-le end xs within) in
     ap (drop start) (sym (take-append-drop end xs)) ∙ drop-append-le start (take end xs) (drop end xs) inside
 
-pub table_takes : (t : Tables) (off : ℕ) (paths : List (List ℕ)) → files_of t off ≡ Ok paths → (bytes : List ℕ) × IsAt t.lines off bytes × IsTable (strings_in t) bytes paths
-table_takes t off paths is =
+pub table_takes : (t : Tables) (off : ℕ) (paths : List (List ℕ)) → AllByRecursion (λ b. b < 256) t.lines → files_of t off ≡ Ok paths → (bytes : List ℕ) × IsAt t.lines off bytes × IsTable (strings_in t) bytes paths
+table_takes t off paths are_bytes is =
+    let p : Input = record { bytes = t.lines; at = off } in
     let extent = bind_ok (extent_field (extent_of t.lines off)) _ paths is in
     let e = extent.0 in
     let unit = bind_ok (unit_at t e.wide (fields_of t.lines e)) _ paths extent.2 in
     let same = same_ok {E = LineFault} unit.0.0 paths unit.2 in
-    let length_is = extent_takes t.lines off (number_at 4 (record { bytes = t.lines; at = off })) e refl (extent_ok (extent_of t.lines off) e extent.1) in
+    let length_is = length-takes p e are_bytes (extent_ok (extent_of t.lines off) e extent.1) in
+    let unit_length = length_is.1 in
     let body : List ℕ = drop e.start (take e.end t.lines) in
     let is_body = body_takes t e.wide (fields_of t.lines e) unit.0.1 unit.0.0 unit.1 in
-    let long : length body ≡ e.end - e.start = length-drop e.start (take e.end t.lines) ∙ ap (λ n. n - e.start) (length-take-le e.end t.lines length_is.within) in
-    let ahead_by : e.start ≡ off + length length_is.bytes = ap (λ (z : Input). z.at) length_is.between.place in
-    let inside : off ≤ length t.lines = omega (arith, length_is.ordered, length_is.within) in
-    let behind : drop off t.lines ≡ (length_is.bytes ++ body) ++ drop e.end t.lines =
-    length_is.between.front ∙ ap (λ (xs : List ℕ). length_is.bytes ++ xs) (cut_at t.lines e.start e.end length_is.ordered length_is.within) ∙ sym (append_assoc length_is.bytes body (drop e.end t.lines)) in (
-      length_is.bytes ++ body,
+    let ordered : e.start ≤ e.end = omega (arith, length_is.5, length_is.6) in
+    let long : length body ≡ length_is.2 = length-drop e.start (take e.end t.lines) ∙ ap (λ n. n - e.start) (length-take-le e.end t.lines length_is.7) ∙ omega (arith, length_is.5, length_is.6) in
+    let ahead_by : e.start ≡ off + length unit_length = length_is.5 ∙ ap (λ (z : Input). z.at) length_is.3.place in
+    let inside : off ≤ length t.lines = omega (arith, length_is.7) in
+    let left : rest length_is.0 ≡ drop e.start t.lines = ap rest length_is.3.place ∙ ap (λ n. drop n t.lines) (sym ahead_by) in
+    let after : drop off t.lines ≡ (unit_length ++ body) ++ drop e.end t.lines =
+    length_is.3.front ∙ ap (λ (xs : List ℕ). unit_length ++ xs) (left ∙ cut_at t.lines e.start e.end ordered length_is.7) ∙ sym (append_assoc unit_length body (drop e.end t.lines)) in (
+      unit_length ++ body,
       record {
         before = take off t.lines;
         after = drop e.end t.lines;
-        parts = sym (take-append-drop off t.lines) ∙ ap (λ (xs : List ℕ). take off t.lines ++ xs) behind;
+        parts = sym (take-append-drop off t.lines) ∙ ap (λ (xs : List ℕ). take off t.lines ++ xs) after;
         place = length-take-le off t.lines inside;
       },
       record {
         wide = e.wide;
-        unit_length = length_is.bytes;
+        unit_length = unit_length;
         body = body;
-        spelled = refl {a = length_is.bytes ++ body};
-        is_length = subst (IsLength e.wide length_is.bytes) (sym long) length_is.is_length;
+        spelled = refl {a = unit_length ++ body};
+        is_length = subst (IsLength e.wide unit_length) (sym long) length_is.4;
         is_body = subst (IsBody (strings_in t) e.wide body) same is_body;
       },
     )
 
 rest_at : (section : List ℕ) (off : ℕ) (bytes : List ℕ) → (at : IsAt section off bytes) → drop off section ≡ bytes ++ at.after
 rest_at section off bytes at = ap (drop off) at.parts ∙ drop_at at.before (bytes ++ at.after) off at.place
+
+bounded_within : (section at : ℕ) (wide : Bool) (start long : ℕ) → start + long ≤ section → bounded_by section at wide start long ≡ Ok (record { wide = wide; start = start; end = start + long })
+bounded_within section at wide start long within = rw (le-ltb section (start + long) within) refl
 
 -- where the unit of a table lies
 record TableExtent (section : List ℕ) (off : ℕ) (bytes body : List ℕ) (wide : Bool) : Type 0 where
@@ -153,7 +96,7 @@ extent_at section off bytes s paths at is =
     let end_long : length (front ++ body) ≡ end = length-append front body ∙ ap (λ n. n + length body) front_long in
     record {
       extent = record { wide = is.wide; start = start; end = end };
-      found = extent_again section off is.wide (ahead p (length is.unit_length)) is.unit_length (length body) between is.is_length within;
+      found = length-again p (ahead p (length is.unit_length)) is.unit_length is.wide (length body) between is.is_length ∙ bounded_within (length section) off is.wide start (length body) within;
       is_wide = refl;
       fields = ap (drop start) (ap (take end) all ∙ take_at (front ++ body) at.after end end_long) ∙ drop_at front body start front_long;
       ends = omega arith;

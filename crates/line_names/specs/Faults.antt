@@ -1,6 +1,5 @@
--- How a fault of a field is one of the line table, and how a call answers what reading gives.
-use Rattle.std.specs.Prelude.{◌≡◌, ◌⊎◌, ℕ, Result, Ok, Err}
-use Rattle.mac_base.specs.Input.{Input}
+-- The faults of a line table, and how a call answers what reading gives.
+use Rattle.std.specs.Prelude.{◌≡◌, ℕ, Result, Ok, Err}
 use Rattle.mac_base.specs.declared.cursor.CursorFault.{CursorFault}
 use Rattle.mac_base.specs.declared.cursor.CursorFault.TheVariants.{Cut as CutField, Leb as LongNumber, NoNul as OpenString}
 use Rattle.mac_base.specs.declared.extent.ExtentFault.{ExtentFault}
@@ -38,21 +37,7 @@ extent_field (Err fault) = Err (extent_fault fault)
 abbrev pub ran_out : LineFault
 ran_out = fault_at 0 NoMemory
 
--- a fault that is answered is the one that reading gives, unless memory ran out
-abbrev pub IsFaultOf : {Y : Type 0} → Result Y LineFault → LineFault → Type 0
-IsFaultOf reading fault = (fault ≡ ran_out) ⊎ (reading ≡ Err fault)
-
--- a call answers exactly what reading gives, seen by view, or that memory ran out
-abbrev pub Answers : {X Y : Type 0} → (X → Y) → Result X LineFault → Result Y LineFault → Type 0
-Answers view (Ok x) reading = reading ≡ Ok (view x)
-Answers view (Err fault) reading = IsFaultOf reading fault
-
--- the same of a call that leaves its input behind what it read
-abbrev pub Takes : {X Y : Type 0} → (X → Y) → Input → Result X LineFault → Result (Y × Input) LineFault → Type 0
-Takes view new (Ok x) reading = reading ≡ Ok (view x, new)
-Takes view new (Err fault) reading = IsFaultOf reading fault
-
--- the same of a call that takes no memory and reads nothing
+-- a call that takes no memory answers exactly what reading gives, seen by view
 abbrev pub Says : {X Y : Type 0} → (X → Y) → Result X LineFault → Result Y LineFault → Type 0
 Says view (Ok x) reading = reading ≡ Ok (view x)
 Says view (Err fault) reading = reading ≡ Err fault

@@ -1,7 +1,8 @@
 -- Which bytes spell a line table that names a list of paths (DWARF 5, 6.2.4 and 7.22), apart from how it is read.
-use Rattle.std.specs.Prelude.{◌≡◌, ◌⊎◌, ℕ, suc, ◌==◌, ◌<◌, ◌≤◌, ◌^◌, Bool, true, false, if◌then◌else◌, IsTrue, List, [], ◌∷◌, ◌++◌, length, map, Option, Some, None}
+use Rattle.std.specs.Prelude.{◌≡◌, ◌⊎◌, ℕ, suc, ◌==◌, ◌<◌, ◌^◌, Bool, if◌then◌else◌, IsTrue, List, [], ◌∷◌, ◌++◌, length, map, Option, Some, None}
 use Rattle.std.specs.List.{list_any}
-use Rattle.mac_base.specs.Spelling.{IsUleb, IsFixed}
+use Rattle.mac_base.specs.Spelling.{IsUleb}
+use Rattle.mac_base.specs.LengthSpelling.{IsLength}
 use Rattle.mac_base.specs.declared.form.Form.{Form}
 use Rattle.mac_base.specs.declared.form.Form.TheVariants.{LineStrp}
 use Rattle.mac_base.specs.declared.value.Sizes.{Sizes}
@@ -155,11 +156,6 @@ pub record IsBody (s : StringSections) (wide : Bool) (bytes : List ℕ) (paths :
   pub are_files : IsEntryList s (record { wide = wide; address = address_size }) file_list files
   pub within : HaveDirectories directories files
   pub are_paths : paths ≡ paths_of directories files
-
--- The bytes spell the length of a unit (7.4): in the 32-bit format four bytes with a number below fffffff0, in the 64-bit format ffffffff, which is the highest number of four bytes, and eight bytes.
-abbrev pub IsLength : Bool → List ℕ → ℕ → Type 0
-IsLength false bytes n = IsFixed 4 bytes n × (n < 0xffff_fff0)
-IsLength true bytes n = (escape : List ℕ) × (long : List ℕ) × (mark : ℕ) × (bytes ≡ escape ++ long) × IsFixed 4 escape mark × (0xffff_ffff ≤ mark) × IsFixed 8 long n
 
 -- The bytes spell a line table that names these paths: the length of what follows, and what follows.
 pub record IsTable (s : StringSections) (bytes : List ℕ) (paths : List (List ℕ)) : Type 0 where

@@ -1,6 +1,7 @@
 ghost use Rattle.std.specs.Prelude.{◌≡◌, []};
 ghost use Rattle.mac_base.specs.Input.{Reads};
-ghost use Rattle.line_names.specs.Faults.{Takes};
+ghost use Rattle.mac_base.specs.Answers.{TakesAs};
+ghost use Rattle.line_names.specs.Faults.{ran_out};
 ghost use Rattle.line_names.specs.Format.{has_role, role_by_code, form_fits, form_passes, content_at, contents_at, format_at};
 
 use crate::fault::{LineFault, LineKind};
@@ -28,7 +29,7 @@ pub struct Content {
 /// Reads the format of the entries that follow: the number of their contents, and the contents. `Form` stands where the
 /// form of a content is read.
 pub fn read_format(alloc: Global, cursor: &mut Cursor<'_>) -> Result<Vec<Content>, LineFault>
-    ensures { Takes (λ v. v.items) cursor.new result (format_at cursor.old) }
+    ensures { TakesAs ran_out (λ v. v.items) cursor.new result (format_at cursor.old) }
 {
     let count = cursor.u8()?;
     read_contents(alloc, cursor, count)
@@ -40,7 +41,7 @@ fn read_contents(
     cursor: &mut Cursor<'_>,
     count: u8,
 ) -> Result<Vec<Content>, LineFault>
-    ensures { Takes (λ v. v.items) cursor.new result (contents_at count [] cursor.old) }
+    ensures { TakesAs ran_out (λ v. v.items) cursor.new result (contents_at count [] cursor.old) }
 {
     let mut contents = Vec::new(alloc);
     for _index in 0..count {

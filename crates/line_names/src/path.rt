@@ -1,6 +1,7 @@
 ghost use Rattle.std.specs.Prelude.{◌≡◌, IfOk, ◌∷◌, ◌++◌, length, map};
 ghost use Rattle.mac_base.specs.Input.{Reads};
-ghost use Rattle.line_names.specs.Faults.{Takes};
+ghost use Rattle.mac_base.specs.Answers.{TakesAs};
+ghost use Rattle.line_names.specs.Faults.{ran_out};
 ghost use Rattle.line_names.specs.Entries.{name_of, entry_of, tables_of};
 ghost use Rattle.line_names.specs.Files.{path_in, is_absolute, directory_in, count_at, directory_at, file_at, repeat_at, directories_at, paths_at, for_directories};
 
@@ -19,7 +20,7 @@ pub fn read_directories<'a>(
     tables: &LineTables<'a>,
     sizes: Sizes,
 ) -> Result<Vec<Name<'a>>, LineFault>
-    ensures { Takes (λ v. map name_of v.items) cursor.new result (directories_at (tables_of tables.now) sizes cursor.old) }
+    ensures { TakesAs ran_out (λ v. map name_of v.items) cursor.new result (directories_at (tables_of tables.now) sizes cursor.old) }
 {
     let format = read_format(alloc, cursor)?;
     let count = read_count(cursor, format.as_slice())?;
@@ -39,7 +40,7 @@ pub fn read_paths<'a>(
     sizes: Sizes,
     directories: &[Name<'a>],
 ) -> Result<Paths, LineFault>
-    ensures { Takes (λ paths. paths) cursor.new result
+    ensures { TakesAs ran_out (λ paths. paths) cursor.new result
         (paths_at (tables_of tables.now) sizes (map name_of directories.now) cursor.old) }
 {
     let format = read_format(alloc, cursor)?;
@@ -77,7 +78,7 @@ fn read_names<'a>(
     format: &[Content],
     count: u64,
 ) -> Result<Vec<Name<'a>>, LineFault>
-    ensures { Takes (λ v. map name_of v.items) cursor.new result
+    ensures { TakesAs ran_out (λ v. map name_of v.items) cursor.new result
         (repeat_at (directory_at (tables_of tables.now) measures format.now) count cursor.old) }
 {
     let mut names = Vec::new(alloc);
@@ -98,7 +99,7 @@ fn read_files_of<'a>(
     format: &[Content],
     count: u64,
 ) -> Result<Paths, LineFault>
-    ensures { Takes (λ paths. paths) cursor.new result
+    ensures { TakesAs ran_out (λ paths. paths) cursor.new result
         (repeat_at (file_at (tables_of tables.now) sizes (map name_of directories.now) format.now) count cursor.old) }
 {
     let mut paths = Paths::new(alloc);
@@ -118,7 +119,7 @@ fn read_path<'a>(
     directories: &[Name<'a>],
     format: &[Content],
 ) -> Result<Bytes, LineFault>
-    ensures { Takes (λ path. path) cursor.new result
+    ensures { TakesAs ran_out (λ path. path) cursor.new result
         (file_at (tables_of tables.now) sizes (map name_of directories.now) format.now cursor.old) }
 {
     let measures = Measures {

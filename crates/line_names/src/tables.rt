@@ -1,5 +1,6 @@
 ghost use Rattle.mac_base.specs.SectionBytes.{bytes_of};
-ghost use Rattle.line_names.specs.Faults.{Answers, Takes};
+ghost use Rattle.mac_base.specs.Answers.{AnswersAs, TakesAs};
+ghost use Rattle.line_names.specs.Faults.{ran_out};
 ghost use Rattle.line_names.specs.Entries.{tables_of, tables_in};
 ghost use Rattle.line_names.specs.Files.{files_of, unit_at};
 
@@ -13,14 +14,14 @@ use std::alloc::Global;
 /// The paths of the files that the line table at an offset of `.debug_line` names, by their indexes from 0 on, or the
 /// first fault of the table.
 pub fn read_files(alloc: Global, s: &Sections<'_>, off: u64) -> Result<Paths, LineFault>
-    ensures { Answers (λ paths. paths) result (files_of (tables_in (bytes_of s.now)) off) }
+    ensures { AnswersAs ran_out (λ paths. paths) result (files_of (tables_in (bytes_of s.now)) off) }
 {
     files_at(alloc, &LineTables::new(s), off)
 }
 
 /// The same for whoever reads many tables.
 pub fn files_at(alloc: Global, tables: &LineTables<'_>, off: u64) -> Result<Paths, LineFault>
-    ensures { Answers (λ paths. paths) result (files_of (tables_of tables.now) off) }
+    ensures { AnswersAs ran_out (λ paths. paths) result (files_of (tables_of tables.now) off) }
 {
     let extent = extent_at(tables.lines, off as usize)?;
     let mut cursor = Cursor::new(&tables.lines[..extent.end], extent.start);
@@ -35,7 +36,7 @@ fn read_unit<'a>(
     tables: &LineTables<'a>,
     wide: bool,
 ) -> Result<Paths, LineFault>
-    ensures { Takes (λ paths. paths) cursor.new result (unit_at (tables_of tables.now) wide cursor.old) }
+    ensures { TakesAs ran_out (λ paths. paths) cursor.new result (unit_at (tables_of tables.now) wide cursor.old) }
 {
     let address = read_header(cursor, wide)?;
     let sizes = Sizes { wide, address };

@@ -1,5 +1,5 @@
 -- The strings of a string section (DWARF 5, 7.5.5 and 7.26), and how a call answers what it looks up.
-use Rattle.std.specs.Prelude.{◌≡◌, ℕ, nat_lt, List, drop, Option, Some, None, is_some, Result, Ok, Err}
+use Rattle.std.specs.Prelude.{◌≡◌, ℕ, List, drop, Option, Some, None, Result, Ok, Err}
 use Rattle.mac_base.specs.Fields.{before_nul}
 use Rattle.string_sections.specs.declared.fault.StrFault.{StrFault}
 use Rattle.string_sections.specs.declared.fault.StrFault.TheVariants.{Range}
@@ -12,7 +12,3 @@ string_of section off = before_nul (drop off section)
 abbrev pub Finds : {X Y : Type 0} → (X → Y) → Result X StrFault → Option Y → Type 0
 Finds view (Ok x) found = found ≡ Some (view x)
 Finds view (Err Range) found = found ≡ None
-
--- strings are at exactly the offsets below this end
-abbrev pub IsEnd : List ℕ → ℕ → Type 0
-IsEnd section end = (off : ℕ) → is_some (string_of section off) ≡ nat_lt off end

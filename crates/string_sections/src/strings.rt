@@ -1,9 +1,8 @@
-ghost use Rattle.std.specs.Prelude.{◌≡◌, ℕ, is_some};
-ghost use Rattle.string_sections.specs.Strings.{string_of, Finds, IsEnd};
+ghost use Rattle.std.specs.Prelude.{◌≡◌, is_some};
+ghost use Rattle.string_sections.specs.Strings.{string_of, Finds};
 
 use crate::fault::StrFault;
-use mac_base::Cursor;
-use memchr::memrchr;
+use mac_base::{Cursor, end_of_strings};
 use std::marker::Model;
 
 /// The string at an offset of a string section, without its NUL (DWARF 5, 7.5.5). `Range` where the offset is not
@@ -21,7 +20,7 @@ pub fn string_at(section: &[u8], off: u64) -> Result<&[u8], StrFault>
     }
 }
 
-/// A string section, with the place behind its last NUL, so that many offsets are tested without a walk along their
+/// A string section, with the place after its last NUL, so that many offsets are tested without a walk along their
 /// strings.
 #[derive(Drop)]
 pub struct Strings<'a> {
@@ -31,13 +30,13 @@ pub struct Strings<'a> {
 
 impl<'a> Model for Strings<'a> {
     ghost use Rattle.std.specs.Prelude.{ℕ, List};
-    ghost use Rattle.string_sections.specs.Strings.{IsEnd};
+    ghost use Rattle.mac_base.specs.Strings.{IsStringsEnd};
 
     ghost Value = { List ℕ };
 
     ghost view = { λ s. s.section.now };
 
-    ghost invariant = { λ s. IsEnd s.section.now s.end };
+    ghost invariant = { λ s. IsStringsEnd s.section.now s.end };
 }
 
 impl<'a> Strings<'a> {
@@ -47,7 +46,7 @@ impl<'a> Strings<'a> {
     {
         Strings {
             section,
-            end: end_of(section),
+            end: end_of_strings(section),
         }
     }
 
@@ -63,15 +62,5 @@ impl<'a> Strings<'a> {
         ensures { result ≡ is_some (string_of self.now off) }
     {
         off < self.end as u64
-    }
-}
-
-/// The place behind the last NUL, or 0 where there is none.
-fn end_of(section: &[u8]) -> usize
-    ensures { IsEnd section.now result }
-{
-    match memrchr(0, section) {
-        Some(last) => last + 1,
-        None => 0,
     }
 }
