@@ -1,2 +1,4 @@
 pub mod Strings
 pub mod Offsets
+pub mod Contributions
+pub mod Laws

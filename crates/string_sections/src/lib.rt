@@ -3,11 +3,15 @@
 #![tactic(auto)]
 
 mod fault;
+mod laws;
 mod offsets;
 mod strings;
 #[cfg(test)]
 mod tests;
+mod writing;
 
 pub use fault::StrFault;
+pub use laws::offsets_are_exact;
 pub use offsets::OffsetsView;
 pub use strings::{Strings, string_at};
+pub use writing::{push_length, write_offsets};
