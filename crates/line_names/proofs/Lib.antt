@@ -6,3 +6,4 @@ pub mod EntryLemmas
 pub mod ListLemmas
 pub mod BodyLemmas
 pub mod TableLemmas
+pub mod WrittenLemmas

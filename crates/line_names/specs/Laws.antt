@@ -1,9 +1,10 @@
--- Reading a line table and spelling it agree.
-use Rattle.std.specs.Prelude.{◌≡◌, ℕ, ◌<◌, List, Ok}
+-- Reading a line table, spelling it and writing it agree.
+use Rattle.std.specs.Prelude.{◌≡◌, ℕ, ◌<◌, ◌≤◌, Bool, List, length, Ok}
 use Rattle.std.specs.List.{AllByRecursion}
 use Rattle.line_names.specs.Entries.{Tables}
 use Rattle.line_names.specs.Files.{files_of}
 use Rattle.line_names.specs.Spelling.{StringSections, IsTable, IsAt}
+use Rattle.line_names.specs.Written.{table_bytes, HaveNoNul}
 
 -- the sections of strings of a file
 abbrev pub strings_in : Tables → StringSections
@@ -20,3 +21,11 @@ SpelledIsRead = (t : Tables) (off : ℕ) (bytes : List ℕ) (paths : List (List 
 -- at an offset is at most one table, which names one list of paths
 abbrev pub OneTable : Type 0
 OneTable = (s : StringSections) (lines : List ℕ) (off : ℕ) (bytes other : List ℕ) (paths found : List (List ℕ)) → IsAt lines off bytes → IsTable s bytes paths → IsAt lines off other → IsTable s other found → (bytes ≡ other) × (paths ≡ found)
+
+-- what is written of paths is a table that names them, whatever the sections of strings hold
+abbrev pub WrittenIsSpelled : Type 0
+WrittenIsSpelled = (s : StringSections) (wide : Bool) (paths : List (List ℕ)) → HaveNoNul paths → length (table_bytes wide paths) ≤ 1_073_741_824 → IsTable s (table_bytes wide paths) paths
+
+-- so it is read again, whatever is before and after it
+abbrev pub WrittenIsRead : Type 0
+WrittenIsRead = (t : Tables) (off : ℕ) (wide : Bool) (paths : List (List ℕ)) → HaveNoNul paths → length (table_bytes wide paths) ≤ 1_073_741_824 → IsAt t.lines off (table_bytes wide paths) → files_of t off ≡ Ok paths

@@ -5,4 +5,5 @@ pub mod Entries
 pub mod Header
 pub mod Files
 pub mod Spelling
+pub mod Written
 pub mod Laws
