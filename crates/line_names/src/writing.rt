@@ -59,7 +59,9 @@ fn fields_of(alloc: Global, files: &[Bytes]) -> Result<Vec<u8>, NoMemory>
 {
     let mut fields = Vec::new(alloc);
     // minimum_instruction_length, maximum_operations_per_instruction, default_is_stmt, line_base, line_range, opcode_base
-    fields.extend_from_slice(&[1, 1, 1, 0xfb, 0x0e, 0x0d, 0, 1, 1, 1, 1, 0, 0, 0, 1, 0, 0, 1])?;
+    fields.extend_from_slice(&[
+        1, 1, 1, 0xfb, 0x0e, 0x0d, 0, 1, 1, 1, 1, 0, 0, 0, 1, 0, 0, 1,
+    ])?;
     // one directory
     fields.extend_from_slice(&[1, 1, 8, 1, b'.', 0])?;
     // the format of the files

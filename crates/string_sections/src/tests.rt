@@ -1,4 +1,4 @@
-use crate::{OffsetsView, StrFault, Strings, string_at};
+use crate::{OffsetsView, StrFault, Strings, string_at, write_offsets};
 use std::test::Fail;
 
 #[test]
@@ -30,7 +30,7 @@ fn strings_end_at_their_nul(rt: HostRuntime) -> Result<(), Fail> {
 }
 
 #[test]
-fn entries_stand_behind_the_base(rt: HostRuntime) -> Result<(), Fail> {
+fn entries_follow_the_base(rt: HostRuntime) -> Result<(), Fail> {
     let section = [8, 0, 0, 0, 5, 0, 0, 0, 4, 3, 2, 1, 8, 7, 6, 5];
     let narrow = OffsetsView::new(&section, false);
     assert_eq!(rt; narrow.at(8, 0), Ok(0x0102_0304));
@@ -42,5 +42,18 @@ fn entries_stand_behind_the_base(rt: HostRuntime) -> Result<(), Fail> {
     let wide = OffsetsView::new(&section, true);
     assert_eq!(rt; wide.at(8, 0), Ok(0x0506_0708_0102_0304));
     assert_eq!(rt; wide.at(8, 1), Err(StrFault::Range));
+    Ok(())
+}
+
+#[test]
+fn written_offsets_are_zero(rt: HostRuntime) -> Result<(), Fail> {
+    let mut bytes = Vec::new(rt.alloc());
+    write_offsets(&mut bytes, 2, false)?;
+    write_offsets(&mut bytes, 1, true)?;
+    assert_eq!(rt;
+        bytes.as_slice(),
+        b"\x0c\0\0\0\x05\0\0\0\0\0\0\0\0\0\0\0\xff\xff\xff\xff\x0c\0\0\0\0\0\0\0\x05\0\0\0\0\0\0\0\0\0\0\0".as_slice()
+    );
+    assert_eq!(rt; OffsetsView::new(bytes.as_slice(), true).at(32, 0), Ok(0));
     Ok(())
 }
