@@ -78,7 +78,7 @@ opcodes_again p q lengths between =
     let less : suc (length lengths) - 1 ≡ length lengths = omega arith in
     rw (byte_at-again p a (suc (length lengths)) cut.0, some, less, passed_again lengths a q cut.1) refl
 
--- the fields behind the version
+-- the fields after the version
 fields_take : (wide : Bool) (p q : Input) (address : ℕ) → fields_at wide p ≡ Ok (address, q) → (selector : ℕ) × (header_length : List ℕ) × (a b c d e : ℕ) × (lengths : List ℕ) × Between p q (address ∷ selector ∷ (header_length ++ a ∷ b ∷ c ∷ d ∷ e ∷ suc (length lengths) ∷ lengths)) × (length header_length ≡ offset_width wide)
 fields_take wide p q address is =
     let one = bind_ok (field (number_at 1 p)) _ (address, q) is in

@@ -228,7 +228,7 @@ directory_kept limit false old new is = is
 abbrev pub pairs_of : List Field → List Pair
 pairs_of fields = map (λ (field : Field). field.pair) fields
 
--- what was read of an entry behind these pairs
+-- what was read of an entry whose other pairs are these
 pub record TookFields (t : Tables) (m : Measures) (before pairs : List Pair) (p q : Input) (old new : Entry) : Type 0 where
   pub fields : List Field
   pub bytes : List ℕ

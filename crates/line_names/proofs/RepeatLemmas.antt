@@ -6,7 +6,7 @@ use Rattle.line_names.specs.declared.fault.LineFault.{LineFault}
 use Rattle.line_names.specs.Header.{bytes_passed}
 use Rattle.line_names.specs.Files.{repeat_at}
 
--- what was read before, in front of what is read
+-- what was read before, before what is read
 abbrev pub with_front : {A : Type 0} → List A → Result (List A × Input) LineFault → Result (List A × Input) LineFault
 with_front front read = read >>= λ xs. Ok (front ++ xs.0, xs.1)
 
@@ -14,12 +14,12 @@ front_more : {A : Type 0} (front : List A) (x : A) (r : Result (List A × Input)
 front_more front x (Ok xs) = ap (λ ys. Ok (ys, xs.1)) (sym (append_assoc front (x ∷ []) xs.0))
 front_more front x (Err fault) = refl
 
--- nothing in front
+-- nothing was read before
 pub front_none : {A : Type 0} (r : Result (List A × Input) LineFault) → with_front [] r ≡ r
 front_none (Ok xs) = refl
 front_none (Err fault) = refl
 
--- the entries behind the next one
+-- the entries after the next one
 pub repeat_more : {A : Type 0} (read : Input → Result (A × Input) LineFault) (n : ℕ) (front : List A) (p q : Input) (x : A) → 0 < n → read p ≡ Ok (x, q) → with_front front (repeat_at read n p) ≡ with_front (front ++ x ∷ []) (repeat_at read (n - 1) q)
 repeat_more read zero front p q x some is = absurd (omega arith)
 repeat_more read (suc n) front p q x some is =

@@ -25,7 +25,7 @@ pub record Tables : Type 0 where
   pub strs : List ℕ
   pub line_strs : List ℕ
 
--- the sections that held ones stand for
+-- the sections that held ones are
 abbrev pub tables_of : LineTables → Tables
 tables_of t = record { lines = t.lines.now; strs = t.strs; line_strs = t.line_strs }
 
@@ -43,7 +43,7 @@ abbrev pub name_of : Name → List ℕ
 name_of (Here text) = text.now
 name_of (At section off) = unwrap_or (string_of section.now off) []
 
--- the entry that a held one stands for
+-- the entry that a held one is
 abbrev pub entry_of : HeldEntry → Entry
 entry_of e = record { path = name_of e.path; directory = e.directory }
 

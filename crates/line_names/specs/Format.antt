@@ -71,14 +71,14 @@ abbrev pub fitting : Role → ℕ → Input → Option Form → Result (Content 
 fitting role at p None = Err (fault_at at UnfitForm)
 fitting role at p (Some form) = if form_fits role form then Ok (record { role = role; form = form }, p) else Err (fault_at at UnfitForm)
 
--- the next content, behind those in front of it: its type and its form
+-- the next content after those that were read: its type and its form
 unfoldable pub content_at : List Content → Input → Result (Content × Input) LineFault
 content_at contents p = do
   code ← field (uleb_at p)
   form ← field (uleb_at code.1)
   fitting (role_by_code contents code.0) code.1.at form.1 (form_by_code form.0)
 
--- so many contents, behind those in front of them
+-- so many contents, after those that were read
 abbrev pub contents_at : ℕ → List Content → Input → Result (List Content × Input) LineFault
 contents_at zero contents p = Ok (contents, p)
 contents_at (suc n) contents p = content_at contents p >>= λ content. contents_at n (contents ++ content.0 ∷ []) content.1

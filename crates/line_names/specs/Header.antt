@@ -1,4 +1,4 @@
--- The fields of a line header in front of its directories (DWARF 5, 6.2.4, items 2 to 13).
+-- The fields of a line header before its directories (DWARF 5, 6.2.4, items 2 to 13).
 use Rattle.std.specs.Prelude.{ℕ, zero, suc, ◌-◌, ◌==◌, Bool, if◌then◌else◌, Result, Ok, Err}
 use Rattle.mac_base.specs.Input.{Input, ◌>>=◌}
 use Rattle.mac_base.specs.Fields.{number_at}
@@ -8,7 +8,7 @@ use Rattle.line_names.specs.declared.fault.LineFault.{LineFault}
 use Rattle.line_names.specs.declared.fault.LineKind.TheVariants.{Version, OpcodeBase}
 use Rattle.line_names.specs.Faults.{field, fault_at}
 
--- where the next field begins behind so many of one byte
+-- where the next field begins after so many of one byte
 abbrev pub bytes_passed : ℕ → Input → Result Input CursorFault
 bytes_passed zero p = Ok p
 bytes_passed (suc n) p = number_at 1 p >>= λ byte. bytes_passed n byte.1

@@ -26,7 +26,7 @@ pub struct Content {
     pub form: Form,
 }
 
-/// Reads the format of the entries that follow: the number of their contents, and the contents. `Form` stands where the
+/// Reads the format of the entries that follow: the number of their contents, and the contents. `Form` names the place where the
 /// form of a content is read.
 pub fn read_format(alloc: Global, cursor: &mut Cursor<'_>) -> Result<Vec<Content>, LineFault>
     ensures { TakesAs ran_out (λ v. v.items) cursor.new result (format_at cursor.old) }
@@ -51,7 +51,7 @@ fn read_contents(
     Ok(contents)
 }
 
-/// Reads the next content, behind those that stand in front of it.
+/// Reads the next content after those that were read.
 #[tactic(auto, unfolding(crate::specs::Format::content_at))]
 fn read_content(contents: &[Content], cursor: &mut Cursor<'_>) -> Result<Content, LineFault>
     ensures { Reads (λ x. x) cursor.new result (content_at contents.now cursor.old) }

@@ -61,7 +61,7 @@ fn paths_are_names_in_their_directories(rt: HostRuntime) -> Result<(), Fail> {
             b"\x01\x01\x1f\x02\0\0\0\0\x02\0\0\0\x03\x01\x0e\x02\x0f\x05\x1e\x01\x04\0\0\0\x01sixteen bytes...",
             b"inc/s.c\n",
         ),
-        // The directory's index stands before the path, in two bytes.
+        // The directory's index comes before the path, in two bytes.
         (
             b"\x01\x01\x08\x02a\0b\0\x02\x02\x05\x01\x08\x01\x01\0x\0",
             b"b/x\n",

@@ -11,7 +11,7 @@ pub record OffsetTable : Type 0 where
 abbrev pub entry_width : Bool → ℕ
 entry_width wide = if wide then 8 else 4
 
--- where the entry of an index begins, behind those before it
+-- where the entry of an index begins, after those before it
 abbrev pub entry_place : Bool → ℕ → ℕ → ℕ
 entry_place wide base index = base + index * entry_width wide
 
