@@ -69,7 +69,7 @@ found p (y ∷ ys) x d is =
           (suc rest.0, omega (arith, rest.1), rest.2, rest.3)
     ]
 
--- what is found stands at a number, and the test holds for it
+-- what is found has a number, and the test holds for it
 pub find_found : {X : Type 0} (f : ℕ → X) (p : X → Bool) (m : ℕ) (x : X) → find p (before f m) ≡ Some x → (n : ℕ) × (1 ≤ n) × (n < m) × (f n ≡ x) × (p x ≡ true)
 find_found f p m x is =
     let here = found p (before f m) x x is in

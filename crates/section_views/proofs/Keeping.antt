@@ -14,7 +14,7 @@ use Rattle.section_views.proofs.Finding.{find_more}
 use Rattle.section_views.proofs.Firsts.{header_at-number}
 use Rattle.section_views.proofs.Places.{no_any, names_apart, one_text}
 
--- section n has the name at place k, and contents, and stands outside groups
+-- section n has the name at place k, and contents, and belongs to no group
 abbrev pub stands : List ℕ → ℕ → ℕ → Bool
 stands file n k = is_member (names_of file) (name_at k) (header_at file n)
 
@@ -48,7 +48,7 @@ is_second-at file n k within holds earlier =
     list_any_at (λ (name : List ℕ). is_member (names_of file) name (header_at file n) && is_some (first_member file (header_at file n).number name)) family_names k [] within
     (ap (λ m. stands file n k && is_some (first_member file m (name_at k))) (header_at-number file n) ∙ rw holds earlier)
 
--- a section stands at one place at most
+-- a section is at one place at most
 pub stands_once : (file : List ℕ) (n j k : ℕ) → j < 7 → k < 7 → j ≢ k → stands file n k ≡ true → stands file n j ≡ false
 stands_once file n j k low high apart holds =
     elim (cases_Bool (stands file n j)) [

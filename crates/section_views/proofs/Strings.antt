@@ -1,43 +1,11 @@
 -- Strings and their NULs in a table of strings.
-use Rattle.std.proofs.Common.{◌≡◌, ℕ, zero, suc, ◌+◌, ◌-◌, ◌<◌, ◌≤◌, Bool, true, false, not, ◌&&◌, eqb, leb, cond, List, [], ◌∷◌, length, get_or, take, drop, Option, Some, None, refl, ap, sym, ◌∙◌, inl, inr, arith}
+use Rattle.std.proofs.Common.{◌≡◌, ℕ, Bool, true, false, not, ◌&&◌, eqb, cond, List, [], ◌∷◌, length, take, drop, Option, Some, None, refl, ap, sym, ◌∙◌, inl, inr}
 use Rattle.std.specs.List.{list_all, starts_with}
-use Rattle.std.specs.Option.{option_map, is_none}
+use Rattle.std.specs.Option.{option_map}
 use Rattle.std.specs.Cmp.Lexicographic.{pointwise}
-use Rattle.std.proofs.lemmas.List.{get_or-drop}
-use Rattle.std.proofs.Common.{length-drop}
-use Rattle.std.proofs.lemmas.Bool.{cases_Bool, cases_lt, eqb-true, eqb-false, eq-eqb, ne_eqb, le-leb, lt-leb, and_parts, not-true}
+use Rattle.std.proofs.lemmas.Bool.{cases_Bool, eqb-true, eqb-false, eq-eqb, ne_eqb, and_parts, not-true}
 use Rattle.mac_base.specs.Fields.{before_nul}
-use Rattle.mac_base.proofs.FieldLemmas.{before_nul_none}
 use Rattle.section_views.specs.Family.{is_text}
-
-some_text : (b : ℕ) (t : Bool) (o : Option (List ℕ)) → is_none o ≡ false → is_none (cond t (Some []) (option_map (λ (text : List ℕ). b ∷ text) o)) ≡ false
-some_text b true o some = refl
-some_text b false None some = some
-some_text b false (Some text) some = refl
-
-nul_ahead : (xs : List ℕ) (k : ℕ) → k < length xs → eqb (get_or xs k 0) 0 ≡ true → is_none (before_nul xs) ≡ false
-nul_ahead [] k within nul = absurd (omega arith)
-nul_ahead (b ∷ bs) zero within nul = rw nul refl
-nul_ahead (b ∷ bs) (suc k) within nul = some_text b (eqb b 0) (before_nul bs) (nul_ahead bs k (omega arith) nul)
-
--- a string that begins up to the last NUL has an end, and no later one has
-pub open_behind : (xs : List ℕ) (last at : ℕ) → last < length xs → eqb (get_or xs last 0) 0 ≡ true → ((k : ℕ) → last + 1 ≤ k → k < length xs → eqb (get_or xs k 0) 0 ≡ false) → is_none (before_nul (drop at xs)) ≡ leb (last + 1) at
-open_behind xs last at within nul later =
-    elim (cases_lt at (last + 1)) [
-      | inl ahead ↦
-          let place : at + (last - at) ≡ last = omega arith in
-          let there : get_or (drop at xs) (last - at) 0 ≡ get_or xs last 0 = get_or-drop at xs (last - at) 0 ∙ ap (λ k. get_or xs k 0) place in
-          let closed = nul_ahead (drop at xs) (last - at) (omega (arith, length-drop at xs)) (ap (λ b. eqb b 0) there ∙ nul) in
-          closed ∙ sym (lt-leb (last + 1) at ahead)
-      | inr behind ↦
-          let open_one = before_nul_none (drop at xs) (λ j h. ap (λ b. eqb b 0) (get_or-drop at xs j 0) ∙ later (at + j) (omega arith) (omega (arith, length-drop at xs))) in
-          ap is_none open_one ∙ sym (le-leb (last + 1) at behind)
-    ]
-
-pub open_without : (xs : List ℕ) (at : ℕ) → ((k : ℕ) → 0 ≤ k → k < length xs → eqb (get_or xs k 0) 0 ≡ false) → is_none (before_nul (drop at xs)) ≡ leb 0 at
-open_without xs at never =
-    let open_one = before_nul_none (drop at xs) (λ j h. ap (λ b. eqb b 0) (get_or-drop at xs j 0) ∙ never (at + j) (omega arith) (omega (arith, length-drop at xs))) in
-    ap is_none open_one ∙ sym (le-leb 0 at (omega arith))
 
 eqb_turned : (a b : ℕ) → eqb a b ≡ eqb b a
 eqb_turned a b =

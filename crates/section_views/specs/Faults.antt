@@ -1,9 +1,10 @@
--- Why a file is refused: the faults of its headers, each tested over the whole file before the next.
+-- Why a file is rejected: the faults of its headers, each tested over the whole file before the next.
 use Rattle.std.specs.Prelude.{ℕ, ◌+◌, ◌*◌, ◌==◌, nat_lt, nat_le, Bool, not, ◌||◌, if◌then◌else◌, List, [], ◌∷◌, length, find, Option, None, Some}
 use Rattle.std.specs.Option.{option_map, option_or, is_none}
 use Rattle.section_views.specs.declared.fault.ElfFault.{ElfFault}
 use Rattle.section_views.specs.declared.fault.ElfFault.TheVariants.{NotElf, Class, Order, Kind, Extended, Table, Range, Name, Compressed, Twice}
 use Rattle.section_views.specs.declared.header.SectionHeader.{SectionHeader}
+use Rattle.section_views.specs.Gabi.{ELFCLASS64, ELFDATA2LSB, SHN_UNDEF, SHT_STRTAB}
 use Rattle.section_views.specs.FileHeader.{is_elf, class_of, order_of, kind_of, is_linked, table_offset, has_table, entry_size, entry_count, names_number, is_extended}
 use Rattle.section_views.specs.SectionTable.{section_count, header_at, sections_of, is_outside, names_of, name_in}
 use Rattle.section_views.specs.Family.{is_compressed_family, is_second}
@@ -21,17 +22,17 @@ abbrev pub first_of : List (Option ElfFault) → Option ElfFault
 first_of [] = None
 first_of (fault ∷ faults) = option_or fault (first_of faults)
 
--- no 64-bit file, lowest byte first, that is linked
+-- no 64-bit file with the lowest byte first that is linked
 unfoldable pub header_fault : List ℕ → Option ElfFault
 header_fault file =
     first_of (
     where_true (not (is_elf file)) NotElf
-    ∷ where_true (not (class_of file == 2)) Class
-    ∷ where_true (not (order_of file == 1)) Order
+    ∷ where_true (not (class_of file == ELFCLASS64)) Class
+    ∷ where_true (not (order_of file == ELFDATA2LSB)) Order
     ∷ where_true (not (is_linked (kind_of file))) Kind
     ∷ [])
 
--- a table of sections whose size isn't told in the header, whose entries haven't 64 bytes (e_shentsize stands at 58), or that leads out of the file
+-- a table of sections whose size isn't told in the header, whose entries haven't 64 bytes (e_shentsize is at 58), or that isn't inside the file
 unfoldable pub table_fault : List ℕ → Option ElfFault
 table_fault file =
     if has_table file
@@ -43,13 +44,13 @@ table_fault file =
     ∷ [])
     else None
 
--- contents that lead out of the file
+-- contents that aren't inside the file
 unfoldable pub range_fault : List ℕ → Option ElfFault
 range_fault file = at_first (is_outside (length file)) Range (sections_of file)
 
--- the number of the section of names is that of no section, as 0 (SHN_UNDEF) is, or the section is no string table (SHT_STRTAB, 3)
+-- the number of the section of names is that of no section, as SHN_UNDEF is, or the section is no string table
 abbrev pub lacks_names : List ℕ → Bool
-lacks_names file = names_number file == 0 || nat_le (section_count file) (names_number file) || not ((header_at file (names_number file)).kind == 3)
+lacks_names file = names_number file == SHN_UNDEF || nat_le (section_count file) (names_number file) || not ((header_at file (names_number file)).kind == SHT_STRTAB)
 
 -- a section whose name no NUL ends
 abbrev pub is_nameless : List ℕ → SectionHeader → Bool
@@ -74,7 +75,7 @@ compression_fault file = at_first (is_compressed_family (names_of file)) Compres
 unfoldable pub second_fault : List ℕ → Option ElfFault
 second_fault file = at_first (is_second file) Twice (sections_of file)
 
--- the fault for which a file is refused
+-- the fault for which a file is rejected
 abbrev pub first_fault : List ℕ → Option ElfFault
 first_fault file =
     first_of (

@@ -1,4 +1,4 @@
--- What is given of a file that isn't refused is the one section of its name.
+-- What is given of a file that isn't rejected is the one section of its name.
 use Rattle.std.specs.Prelude.{◌≡◌, ℕ, ◌+◌, ◌<◌, ◌≤◌, List, length, Some, None, IsTrue}
 use Rattle.section_views.specs.SectionTable.{section_count, header_at, names_of}
 use Rattle.section_views.specs.Family.{is_member}

@@ -1,3 +1,4 @@
+pub mod Gabi
 pub mod FileHeader
 pub mod SectionTable
 pub mod Family

@@ -3,6 +3,7 @@ use Rattle.std.specs.Prelude.{ℕ, ◌+◌, ◌-◌, ◌*◌, ◌==◌, nat_lt, 
 use Rattle.std.specs.List.{range_with_len}
 use Rattle.mac_base.specs.Fields.{before_nul}
 use Rattle.section_views.specs.declared.header.SectionHeader.{SectionHeader}
+use Rattle.section_views.specs.Gabi.{SHT_NULL, SHT_NOBITS, SHF_GROUP, SHF_COMPRESSED}
 use Rattle.section_views.specs.FileHeader.{number_in, table_offset, has_table, entry_count, names_number}
 
 -- how many entries there are
@@ -22,7 +23,7 @@ header_at file n =
       size = number_in file (at + 32) 8;
     }
 
--- the sections before number n; they are counted from 1 on, since entry 0 stands for none
+-- the sections before number n; they are counted from 1 on, since entry 0 is no section
 abbrev pub sections_before : List ℕ → ℕ → List SectionHeader
 sections_before file n = map (header_at file) (range_with_len 1 (n - 1))
 
@@ -30,25 +31,25 @@ sections_before file n = map (header_at file) (range_with_len 1 (n - 1))
 abbrev pub sections_of : List ℕ → List SectionHeader
 sections_of file = sections_before file (section_count file)
 
--- a section of type SHT_NULL (0) or SHT_NOBITS (8) has no bytes in the file
+-- a section of type SHT_NULL or SHT_NOBITS has no bytes in the file
 abbrev pub has_contents : SectionHeader → Bool
-has_contents s = not (s.kind == 0) && not (s.kind == 8)
+has_contents s = not (s.kind == SHT_NULL) && not (s.kind == SHT_NOBITS)
 
 -- the bytes of a section, from sh_offset on
 abbrev pub contents_of : List ℕ → SectionHeader → List ℕ
 contents_of file s = take s.size (drop s.offset file)
 
--- sh_offset and sh_size lead out of a file of this length
+-- by sh_offset and sh_size the contents aren't inside a file of this length
 abbrev pub is_outside : ℕ → SectionHeader → Bool
 is_outside len s = has_contents s && nat_lt len (s.offset + s.size)
 
--- the flag SHF_GROUP, hexadecimal 200: the section belongs to a group
+-- the flag SHF_GROUP: the section belongs to a group
 abbrev pub is_grouped : SectionHeader → Bool
-is_grouped s = not (bit_and s.flags 0x200 == 0)
+is_grouped s = not (bit_and s.flags SHF_GROUP == 0)
 
--- the flag SHF_COMPRESSED, hexadecimal 800
+-- the flag SHF_COMPRESSED
 abbrev pub is_compressed : SectionHeader → Bool
-is_compressed s = not (bit_and s.flags 0x800 == 0)
+is_compressed s = not (bit_and s.flags SHF_COMPRESSED == 0)
 
 -- the names of all sections, each with a NUL, are the contents of one of them; a file without sections has none
 abbrev pub names_of : List ℕ → List ℕ

@@ -1,4 +1,4 @@
--- What a file that isn't refused gives: the sections of the family outside groups, by name.
+-- What a file that isn't rejected gives: the sections of the family outside groups, by name.
 use Rattle.std.specs.Prelude.{ℕ, Bool, if◌then◌else◌, List, [], Option, None}
 use Rattle.std.specs.Prelude.{codes}
 use Rattle.std.specs.Option.{option_map, unwrap_or}

@@ -7,29 +7,20 @@ ghost use Rattle.section_views.specs.Family.{is_compressed_family};
 
 use crate::family::is_family;
 use crate::fault::ElfFault;
-use crate::fields::{E_TYPE, EI_CLASS, EI_DATA, u8_at, u16_at};
+use crate::fields::{u8_at, u16_at};
+use crate::gabi::{
+    E_TYPE, EI_CLASS, EI_DATA, ELFCLASS64, ELFDATA2LSB, ELFMAG, ET_DYN, ET_EXEC, SHT_STRTAB,
+};
 use crate::names::Names;
 use crate::table::Table;
 
-const MAGIC: [u8; 4] = *b"\x7fELF";
-
-const ELFCLASS64: u8 = 2;
-
-const ELFDATA2LSB: u8 = 1;
-
-const ET_EXEC: u16 = 2;
-
-const ET_DYN: u16 = 3;
-
-const SHT_STRTAB: u32 = 3;
-
-/// The file is a 64-bit one, lowest byte first, and linked.
+/// The file is a 64-bit one, with the lowest byte first, and linked.
 #[tactic(auto, unfolding(crate::specs::Faults::header_fault))]
 pub fn check_header(file: &[u8]) -> Result<(), ElfFault>
     ensures fault { result_err result ≡ header_fault file.now }
     ensures whole { OnOk result (64 ≤ length file.now) }
 {
-    if file.len() < 64 || !file.starts_with(&MAGIC) {
+    if file.len() < 64 || !file.starts_with(&ELFMAG) {
         return Err(ElfFault::NotElf);
     }
     if u8_at(file, EI_CLASS) != ELFCLASS64 {
@@ -64,7 +55,7 @@ pub fn check_ranges(table: &Table<'_>) -> Result<(), ElfFault>
     Ok(())
 }
 
-/// Whether the contents of section `n` lead out of the file.
+/// Whether the contents of section `n` aren't inside the file.
 fn is_outside(table: &Table<'_>, n: u32) -> bool
     requires { n < section_count table.now }
     ensures { result ≡ is_outside (length table.now) (header_at table.now n) }

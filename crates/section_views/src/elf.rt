@@ -16,7 +16,7 @@ use std::marker::Model;
 
 /// The sections of a linked ELF file that macro information rests on: those of the family `.debug_macro`,
 /// `.debug_str`, `.debug_str_offsets`, `.debug_line`, `.debug_line_str`, `.debug_info` and `.debug_abbrev` (DWARF 5,
-/// 6.3) that stand outside groups. One without bytes in the file counts as absent.
+/// 6.3) that belong to no group. One without bytes in the file counts as absent.
 #[derive(Debug, Drop)]
 pub struct Elf<'a> {
     file: &'a [u8],

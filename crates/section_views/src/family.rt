@@ -60,7 +60,7 @@ pub fn is_family(names: &Names<'_>, section: &SectionHeader) -> bool
     section.has_contents() && place_in(names, section).is_some()
 }
 
-/// The place in the family of a section that has contents and stands outside groups.
+/// The place in the family of a section that has contents and belongs to no group.
 #[tactic(auto, using(crate::proofs::Places::guarded_place))]
 pub fn member_place(names: &Names<'_>, section: &SectionHeader) -> Option<usize>
     ensures { IsPlace (λ name. is_member names.now name section.now) result }

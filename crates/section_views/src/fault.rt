@@ -1,7 +1,7 @@
 use thiserror::Error;
 
-/// Why a file is refused (gABI, "ELF Header" and "Sections"). The faults are tested in the order in which they stand
-/// here. One that names a section is tested over all sections, from number 1 on, before the next fault.
+/// Why a file is rejected (gABI, "ELF Header" and "Sections"). The faults are tested in the order in which they are
+/// listed here. One that names a section is tested over all sections, from number 1 on, before the next fault.
 #[derive(Clone, Copy, Debug, PartialEq, Eq, Error)]
 pub enum ElfFault {
     /// The file has fewer than 64 bytes or doesn't begin with `7f 45 4c 46`.
@@ -10,7 +10,7 @@ pub enum ElfFault {
     /// The file isn't a 64-bit one.
     #[error("no 64-bit ELF file")]
     Class,
-    /// Numbers don't stand lowest byte first.
+    /// Numbers don't have the lowest byte first.
     #[error("an ELF file with the highest byte first")]
     Order,
     /// The file is neither an executable nor a shared object.

@@ -1,21 +1,6 @@
 ghost use Rattle.std.specs.Prelude.{◌≡◌, ◌+◌, ◌≤◌, length};
 ghost use Rattle.section_views.specs.FileHeader.{number_in};
 
-// Where the fields of the ELF header stand that are read.
-pub const EI_CLASS: usize = 4;
-
-pub const EI_DATA: usize = 5;
-
-pub const E_TYPE: usize = 16;
-
-pub const E_SHOFF: usize = 40;
-
-pub const E_SHENTSIZE: usize = 58;
-
-pub const E_SHNUM: usize = 60;
-
-pub const E_SHSTRNDX: usize = 62;
-
 /// The byte at a place.
 pub fn u8_at(bytes: &[u8], at: usize) -> u8
     requires { at + 1 ≤ length bytes.now }

@@ -1,5 +1,7 @@
 ghost use Rattle.std.specs.Prelude.{◌≡◌, ℕ};
 
+use crate::gabi::{SHF_COMPRESSED, SHF_GROUP, SHT_NOBITS, SHT_NULL};
+
 /// The header of a section (gABI, "Section Header"), as far as it is read.
 #[derive(Clone, Copy, Debug)]
 pub struct SectionHeader {
@@ -16,14 +18,6 @@ pub struct SectionHeader {
     /// How many bytes they have.
     pub size: u64,
 }
-
-const SHT_NULL: u32 = 0;
-
-const SHT_NOBITS: u32 = 8;
-
-const SHF_GROUP: u64 = 0x200;
-
-const SHF_COMPRESSED: u64 = 0x800;
 
 impl SectionHeader {
     ghost use Rattle.section_views.specs.SectionTable.{has_contents, is_grouped, is_compressed};

@@ -1,5 +1,5 @@
-//! The sections that macro information rests on, found in a linked ELF file: 64-bit, lowest byte first, an executable
-//! or a shared object.
+//! The sections that macro information rests on, found in a linked ELF file: 64-bit, with the lowest byte first, an
+//! executable or a shared object.
 #![tactic(auto)]
 
 mod checks;
@@ -7,6 +7,7 @@ mod elf;
 mod family;
 mod fault;
 mod fields;
+mod gabi;
 mod header;
 mod laws;
 mod members;

@@ -1,30 +1,29 @@
-ghost use Rattle.std.specs.Prelude.{◌≡◌, ◌==◌, ◌<◌, ℕ, IsTrue, not, drop, length, nat_le};
+ghost use Rattle.std.specs.Prelude.{◌≡◌, ◌==◌, IsTrue, not, drop};
 ghost use Rattle.std.specs.List.{list_all};
 ghost use Rattle.std.specs.Option.{is_none};
 ghost use Rattle.mac_base.specs.Fields.{before_nul};
 ghost use Rattle.section_views.specs.Family.{is_text};
 
-use memchr::memrchr;
+use mac_base::end_of_strings;
 use std::marker::Model;
 
 /// A table of strings, each with its NUL (gABI, "String Table").
 #[derive(Drop)]
 pub struct Names<'a> {
     bytes: &'a [u8],
-    /// Behind the last NUL.
+    /// The place after the last NUL.
     end: usize,
 }
 
 impl<'a> Model for Names<'a> {
-    ghost use Rattle.std.specs.Prelude.{◌≡◌, List, ℕ, nat_le, drop};
-    ghost use Rattle.std.specs.Option.{is_none};
-    ghost use Rattle.mac_base.specs.Fields.{before_nul};
+    ghost use Rattle.std.specs.Prelude.{List, ℕ};
+    ghost use Rattle.mac_base.specs.Strings.{AreOpenFrom};
 
     ghost Value = { List ℕ };
 
     ghost view = { λ n. n.bytes.now };
 
-    ghost invariant = { λ n. (at : ℕ) → is_none (before_nul (drop at n.bytes.now)) ≡ nat_le n.end at };
+    ghost invariant = { λ n. AreOpenFrom n.bytes.now n.end };
 }
 
 impl<'a> Names<'a> {
@@ -34,7 +33,7 @@ impl<'a> Names<'a> {
     {
         Names {
             bytes,
-            end: end_of(bytes),
+            end: end_of_strings(bytes),
         }
     }
 
@@ -52,16 +51,6 @@ impl<'a> Names<'a> {
     {
         let at = self.bytes.len().min(at as usize);
         begins(&self.bytes[at..], text)
-    }
-}
-
-/// The place behind the last NUL, or 0: the strings that begin before it have an end.
-fn end_of(bytes: &[u8]) -> usize
-    ensures { (at : ℕ) → is_none (before_nul (drop at bytes.now)) ≡ nat_le result at }
-{
-    match memrchr(0, bytes) {
-        Some(last) => last + 1,
-        None => 0,
     }
 }
 

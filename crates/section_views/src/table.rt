@@ -5,11 +5,10 @@ ghost use Rattle.section_views.specs.SectionTable.{section_count, header_at, con
 ghost use Rattle.section_views.specs.Faults.{table_fault};
 
 use crate::fault::ElfFault;
-use crate::fields::{E_SHENTSIZE, E_SHNUM, E_SHOFF, E_SHSTRNDX, u16_at, u32_at, u64_at};
+use crate::fields::{u16_at, u32_at, u64_at};
+use crate::gabi::{E_SHENTSIZE, E_SHNUM, E_SHOFF, E_SHSTRNDX, SHN_XINDEX};
 use crate::header::SectionHeader;
 use std::marker::Model;
-
-const SHN_XINDEX: u16 = 0xffff;
 
 /// The table of sections of a file, inside it.
 #[derive(Drop)]

@@ -118,7 +118,7 @@ const INFO: usize = TABLE + 64 * 5;
 
 const ABBREV: usize = TABLE + 64 * 6;
 
-/// Where the last byte of the names stands.
+/// Where the last byte of the names is.
 const LAST_NUL: usize = 173;
 
 /// Where fields stand in an entry of the table.
@@ -199,7 +199,7 @@ fn the_first_fault_is_named(rt: HostRuntime) -> Result<(), Fail> {
         faulty((41, 0xff), SAME, Some(ElfFault::Table { at: 0xffb0 })),
         // Without a table of sections there are none, and nothing else is tested.
         faulty((40, 0), (62, 9), None),
-        // Contents that lead out of the file, also where there are none and where place and size exceed 64 bits.
+        // Contents that aren't inside the file, also where there are none and where place and size exceed 64 bits.
         faulty(
             (INFO + OFFSET + 1, 3),
             (62, 0),
@@ -247,7 +247,7 @@ fn the_first_fault_is_named(rt: HostRuntime) -> Result<(), Fail> {
 }
 
 #[test]
-fn a_file_that_is_cut_is_refused(rt: HostRuntime) -> Result<(), Fail> {
+fn a_file_that_is_cut_is_rejected(rt: HostRuntime) -> Result<(), Fail> {
     let file = linked(rt.alloc())?;
     for n in 0..688 {
         let cut = file.as_slice().get(..n).ok_or("short")?;
