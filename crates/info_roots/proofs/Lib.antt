@@ -1,2 +1,11 @@
 pub mod AbbreviationLemmas
+pub mod AbbreviationSpellingLemmas
+pub mod EntryLemmas
+pub mod NamedLemmas
+pub mod PrefixLemmas
 pub mod RootLemmas
+pub mod TextLemmas
+pub mod UnitLemmas
+pub mod UnitListLemmas
+pub mod WrittenLemmas
+pub mod BodyLemmas

@@ -11,7 +11,7 @@ use Rattle.info_roots.specs.Roots.{unit_read, roots_from}
 abbrev pub rest_of : SectionBytes → ℕ → Result (ℕ × List Root) InfoFault → Result (List Root) InfoFault
 rest_of s n read = read >>= λ next. roots_from s n next.0 next.1
 
--- the units behind the next one
+-- the units after the next one
 pub roots_more : (s : SectionBytes) (n at next : ℕ) (roots more : List Root) → 0 < n → at ≢ length s.info → unit_read s at roots ≡ Ok (next, more) → roots_from s n at roots ≡ roots_from s (n - 1) next more
 roots_more s zero at next roots more some not read = absurd (omega arith)
 roots_more s (suc n) at next roots more some not read =

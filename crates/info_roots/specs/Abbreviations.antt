@@ -4,6 +4,7 @@ use Rattle.mac_base.specs.Input.{Input, ◌>>=◌}
 use Rattle.mac_base.specs.Fields.{number_at, uleb_at, sleb_at}
 use Rattle.mac_base.specs.declared.cursor.CursorFault.{CursorFault}
 use Rattle.mac_base.specs.declared.cursor.CursorFault.TheVariants.{Cut}
+use Rattle.info_roots.specs.Dwarf.{DW_FORM_implicit_const}
 use Rattle.info_roots.specs.declared.abbreviation.Attribute.{Attribute}
 use Rattle.info_roots.specs.declared.abbreviation.Abbreviation.{Abbreviation as HeldAbbreviation}
 use Rattle.info_roots.specs.declared.abbreviation.Declaration.{Declaration as HeldDeclaration}
@@ -13,7 +14,7 @@ pub record Abbreviation : Type 0 where
   pub tag : ℕ
   pub attributes : List Attribute
 
--- the abbreviation that a held one stands for
+-- the abbreviation of a held one
 abbrev pub abbreviation_of : HeldAbbreviation → Abbreviation
 abbreviation_of a = record { tag = a.tag; attributes = a.attributes.items }
 
@@ -26,10 +27,10 @@ pub record Declaration : Type 0 where
 abbrev pub declaration_of : HeldDeclaration → Declaration
 declaration_of d = record { code = d.code; abbreviation = abbreviation_of d.abbreviation }
 
--- behind the form DW_FORM_implicit_const stands a value
-abbrev pub behind_form : ℕ → ℕ × Input → Result (Attribute × Input) CursorFault
-behind_form name form =
-    if form.0 == 0x21 then (sleb_at form.1 >>= λ value. Ok (record { name = name; form = form.0 }, value.1))
+-- a value follows the form DW_FORM_implicit_const
+abbrev pub after_form : ℕ → ℕ × Input → Result (Attribute × Input) CursorFault
+after_form name form =
+    if form.0 == DW_FORM_implicit_const then (sleb_at form.1 >>= λ value. Ok (record { name = name; form = form.0 }, value.1))
     else Ok (record { name = name; form = form.0 }, form.1)
 
 -- the name of an attribute, and its form
@@ -37,21 +38,21 @@ unfoldable pub attribute_at : Input → Result (Attribute × Input) CursorFault
 attribute_at p = do
   name ← uleb_at p
   form ← uleb_at name.1
-  behind_form name.0 form
+  after_form name.0 form
 
 -- a name and a form that are both 0 end the list
 abbrev pub ends : Attribute → Bool
 ends a = a.name == 0 && a.form == 0
 
--- the attributes behind these, up to the end of the list; at most so many
+-- the attributes after these, up to the end of the list; at most so many
 abbrev pub attributes_at : ℕ → List Attribute → Input → Result (List Attribute × Input) CursorFault
 attributes_at zero attributes p = Err (Cut p.at)
 attributes_at (suc n) attributes p =
     attribute_at p >>= λ a. if ends a.0 then Ok (attributes, a.1) else attributes_at n (attributes ++ a.0 ∷ []) a.1
 
 -- the tag, the byte that says whether there are children, and the attributes
-abbrev pub behind_code : ℕ → ℕ × Input → Result (Option Declaration × Input) CursorFault
-behind_code most code = do
+abbrev pub after_code : ℕ → ℕ × Input → Result (Option Declaration × Input) CursorFault
+after_code most code = do
   tag ← uleb_at code.1
   children ← number_at 1 tag.1
   attributes ← attributes_at most [] children.1
@@ -61,12 +62,12 @@ behind_code most code = do
 unfoldable pub declaration_at : ℕ → Input → Result (Option Declaration × Input) CursorFault
 declaration_at most p = do
   code ← uleb_at p
-  if code.0 == 0 then Ok (None, code.1) else behind_code most code
+  if code.0 == 0 then Ok (None, code.1) else after_code most code
 
--- what is found at a declaration, or behind it: nothing behind the end of the table, nor behind what can't be read
+-- what is found at a declaration, or after it: nothing after the end of the table, nor after what can't be read
 abbrev pub found_by : ℕ → (Input → Option Abbreviation) → Result (Option Declaration × Input) CursorFault → Option Abbreviation
-found_by code behind (Err fault) = None
-found_by code behind (Ok read) = option_and_then (λ d. if d.code == code then Some d.abbreviation else behind read.1) read.0
+found_by code after (Err fault) = None
+found_by code after (Ok read) = option_and_then (λ d. if d.code == code then Some d.abbreviation else after read.1) read.0
 
 -- the first abbreviation with the code, among so many declarations, of so many attributes at most
 abbrev pub declared_in : ℕ → ℕ → ℕ → Input → Option Abbreviation

@@ -16,6 +16,7 @@ use Rattle.info_roots.specs.declared.entry.Role.TheVariants.{Name, Line, Dir, St
 use Rattle.info_roots.specs.declared.entry.Text.{Text as HeldText}
 use Rattle.info_roots.specs.declared.entry.Text.TheVariants.{Here as HeldHere, Str as HeldStr, LineStr as HeldLineStr, Index as HeldIndex}
 use Rattle.info_roots.specs.declared.entry.Entry.{Entry as HeldEntry}
+use Rattle.info_roots.specs.Dwarf.{DW_AT_name, DW_AT_stmt_list, DW_AT_comp_dir, DW_AT_str_offsets_base, DW_AT_macros, DW_FORM_indirect}
 use Rattle.info_roots.specs.Faults.{field, fault_at}
 
 -- a string as an attribute says it: itself, an offset into .debug_str or .debug_line_str, or an index
@@ -32,7 +33,7 @@ text_of (HeldStr off) = Str off
 text_of (HeldLineStr off) = LineStr off
 text_of (HeldIndex index) = Index index
 
--- the attributes that are read, each where the entry has it, and whether the directory stands before the name
+-- the attributes that are read, each where the entry has it, and whether the directory comes before the name
 pub record Entry : Type 0 where
   pub name : Option Text
   pub dir : Option Text
@@ -41,7 +42,7 @@ pub record Entry : Type 0 where
   pub macros : Option ℕ
   pub dir_first : Bool
 
--- the entry that a held one stands for
+-- the entry of a held one
 abbrev pub entry_of : HeldEntry → Entry
 entry_of e = record { name = option_map text_of e.name; dir = option_map text_of e.dir; line = e.line; str_base = e.str_base; macros = e.macros; dir_first = e.dir_first }
 
@@ -53,14 +54,14 @@ no_entry = record { name = None; dir = None; line = None; str_base = None; macro
 abbrev pub unless_there : {A : Type 0} → Option A → Role → Role
 unless_there before role = if is_none before then role else Other
 
--- DW_AT_name, DW_AT_stmt_list, DW_AT_comp_dir, DW_AT_str_offsets_base, DW_AT_macros (table 7.5)
+-- what an attribute of this name is read for (table 7.5)
 abbrev pub role_by_name : Entry → ℕ → Role
 role_by_name e name =
-    if name == 0x03 then unless_there e.name Name
-    else if name == 0x10 then unless_there e.line Line
-    else if name == 0x1b then unless_there e.dir Dir
-    else if name == 0x72 then unless_there e.str_base StrBase
-    else if name == 0x79 then unless_there e.macros Macros
+    if name == DW_AT_name then unless_there e.name Name
+    else if name == DW_AT_stmt_list then unless_there e.line Line
+    else if name == DW_AT_comp_dir then unless_there e.dir Dir
+    else if name == DW_AT_str_offsets_base then unless_there e.str_base StrBase
+    else if name == DW_AT_macros then unless_there e.macros Macros
     else Other
 
 -- the forms of a string
@@ -86,25 +87,25 @@ form_fits Name form = form_names form
 form_fits Dir form = form_names form
 form_fits _ form = form_offsets form
 
--- the form that is named in front of an indirect value; an implicit constant has none
+-- the form that is named before an indirect value; DW_FORM_implicit_const is none
 abbrev pub not_implicit : Option Form → Option Form
 not_implicit None = None
 not_implicit (Some ImplicitConst) = None
 not_implicit (Some form) = Some form
 
--- the form that this code names behind DW_FORM_indirect
+-- the form that this code names after DW_FORM_indirect
 abbrev pub inner_by_code : ℕ → Option Form
 inner_by_code code = not_implicit (form_by_code code)
 
--- where the next value begins behind one in a known form; at is the place of an unknown one
+-- where the next value begins after one in a known form; at is the place of an unknown one
 abbrev pub passed_in : Sizes → ℕ → Option Form → Input → Result Input InfoFault
 passed_in sizes at None p = Err (fault_at at UnfitForm)
 passed_in sizes at (Some form) p = field (value_at sizes (layout_by_form form) p) >>= λ value. Ok value.1
 
--- the same of any value: DW_FORM_indirect has its form in front of it
+-- the same of any value: one in DW_FORM_indirect begins with its form
 abbrev pub passed_at : Sizes → ℕ → Input → Result Input InfoFault
 passed_at sizes code p =
-    if code == 0x16 then (field (uleb_at p) >>= λ inner. passed_in sizes p.at (inner_by_code inner.0) inner.1)
+    if code == DW_FORM_indirect then (field (uleb_at p) >>= λ inner. passed_in sizes p.at (inner_by_code inner.0) inner.1)
     else passed_in sizes p.at (form_by_code code) p
 
 -- the number that a value is
@@ -139,14 +140,14 @@ fitting_in sizes role form e p =
     if form_fits role form then (field (value_at sizes (layout_by_form form) p) >>= λ value. Ok (with_role role form value.0 e, value.1))
     else Err (fault_at p.at UnfitForm)
 
--- the entry with the value that stands here, where the form fits
+-- the entry with the value at this place, where the form fits
 abbrev pub fitting : Sizes → Role → Option Form → Entry → Input → Result (Entry × Input) InfoFault
 fitting sizes role None e p = Err (fault_at p.at UnfitForm)
 fitting sizes role (Some form) e p = fitting_in sizes role form e p
 
 -- an attribute that is not read is passed over
 abbrev pub by_role : Sizes → ℕ → Role → Entry → Input → Result (Entry × Input) InfoFault
-by_role sizes code Other e p = passed_at sizes code p >>= λ behind. Ok (e, behind)
+by_role sizes code Other e p = passed_at sizes code p >>= λ next. Ok (e, next)
 by_role sizes code role e p = fitting sizes role (form_by_code code) e p
 
 -- the next attribute of an entry

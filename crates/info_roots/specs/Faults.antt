@@ -1,6 +1,7 @@
--- How a fault of a field is one of the unit, and how a call answers what reading gives.
-use Rattle.std.specs.Prelude.{◌≡◌, ◌⊎◌, ℕ, Result, Ok, Err}
+-- How a fault of a field is one of the unit, and how a call answers what reading gives, by the forms that all crates share.
+use Rattle.std.specs.Prelude.{◌≡◌, ℕ, Result, Ok, Err}
 use Rattle.mac_base.specs.Input.{Input}
+use Rattle.mac_base.specs.Answers.{AnswersAs, IsFaultOf as IsFaultUnless}
 use Rattle.mac_base.specs.declared.cursor.CursorFault.{CursorFault}
 use Rattle.mac_base.specs.declared.cursor.CursorFault.TheVariants.{Cut as CutField, Leb as LongNumber, NoNul as OpenString}
 use Rattle.mac_base.specs.declared.extent.ExtentFault.{ExtentFault}
@@ -40,17 +41,11 @@ ran_out = fault_at 0 NoMemory
 
 -- a fault that is answered is the one that reading gives, unless memory ran out
 abbrev pub IsFaultOf : {Y : Type 0} → Result Y InfoFault → InfoFault → Type 0
-IsFaultOf reading fault = (fault ≡ ran_out) ⊎ (reading ≡ Err fault)
+IsFaultOf reading fault = IsFaultUnless ran_out reading fault
 
 -- a call answers exactly what reading gives, seen by view, or that memory ran out
 abbrev pub Answers : {X Y : Type 0} → (X → Y) → Result X InfoFault → Result Y InfoFault → Type 0
-Answers view (Ok x) reading = reading ≡ Ok (view x)
-Answers view (Err fault) reading = IsFaultOf reading fault
-
--- the same of a call that leaves its input behind what it read
-abbrev pub Takes : {X Y : Type 0} → (X → Y) → Input → Result X InfoFault → Result (Y × Input) InfoFault → Type 0
-Takes view new (Ok x) reading = reading ≡ Ok (view x, new)
-Takes view new (Err fault) reading = IsFaultOf reading fault
+Answers view result reading = AnswersAs ran_out view result reading
 
 -- the same of a call that takes no memory and reads nothing
 abbrev pub Says : {X Y : Type 0} → (X → Y) → Result X InfoFault → Result Y InfoFault → Type 0

@@ -1,7 +1,13 @@
 pub mod Faults
+pub mod Dwarf
 pub mod Tables
 pub mod Abbreviations
+pub mod AbbreviationSpelling
 pub mod Entries
+pub mod EntrySpelling
 pub mod Texts
 pub mod Units
+pub mod UnitSpelling
 pub mod Roots
+pub mod Laws
+pub mod Written

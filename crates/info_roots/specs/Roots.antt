@@ -1,4 +1,4 @@
--- The roots of a file: units stand in .debug_info one after another (DWARF 5, 7.5.1).
+-- Reading the roots of a file: .debug_info is units, one after another (DWARF 5, 7.5.1).
 use Rattle.std.specs.Prelude.{ℕ, zero, suc, ◌==◌, if◌then◌else◌, List, [], ◌∷◌, ◌++◌, length, take, Option, Some, None, Result, Ok, Err}
 use Rattle.mac_base.specs.Input.{Input, ◌>>=◌}
 use Rattle.mac_base.specs.SectionBytes.{SectionBytes}
@@ -14,7 +14,7 @@ use Rattle.info_roots.specs.Units.{unit_at}
 abbrev pub fields_of : List ℕ → Extent → Input
 fields_of section e = record { bytes = take e.end section; at = e.start }
 
--- the root of the unit that lies here
+-- the root of the unit in this extent
 abbrev pub root_at : SectionBytes → ℕ → Extent → Result (Option Root) InfoFault
 root_at s at extent = unit_at s at extent.wide (fields_of s.info extent)
 

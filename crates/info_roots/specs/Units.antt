@@ -8,6 +8,7 @@ use Rattle.mac_base.specs.Values.{offset_at}
 use Rattle.info_roots.specs.declared.fault.InfoFault.{InfoFault}
 use Rattle.info_roots.specs.declared.fault.InfoKind.TheVariants.{Version, AbbrevRange, Abbrev}
 use Rattle.info_roots.specs.declared.root.Root.{Root}
+use Rattle.info_roots.specs.Dwarf.{DW_UT_compile, DW_TAG_compile_unit}
 use Rattle.info_roots.specs.Faults.{field, fault_at}
 use Rattle.info_roots.specs.Abbreviations.{Abbreviation, abbreviation_in}
 use Rattle.info_roots.specs.Entries.{Entry, entry_at, no_entry}
@@ -22,7 +23,7 @@ root_in s at wide e (Some macros) = root_by s at wide e macros >>= λ root. Ok (
 abbrev pub entry_root : SectionBytes → ℕ → Sizes → ℕ → Input → Option Abbreviation → Result (Option Root) InfoFault
 entry_root s at sizes place p None = Err (fault_at place Abbrev)
 entry_root s at sizes place p (Some abbreviation) =
-    if abbreviation.tag == 0x11 then (entry_at sizes abbreviation.attributes no_entry p >>= λ e. root_in s at sizes.wide e.0 e.0.macros)
+    if abbreviation.tag == DW_TAG_compile_unit then (entry_at sizes abbreviation.attributes no_entry p >>= λ e. root_in s at sizes.wide e.0 e.0.macros)
     else Ok None
 
 -- the first entry, whose abbreviation is in the table at this offset; an entry with code 0 is none
@@ -42,7 +43,7 @@ compile_at s at wide p = do
 unfoldable pub fields_at : SectionBytes → ℕ → Bool → Input → Result (Option Root) InfoFault
 fields_at s at wide p = do
   kind ← field (number_at 1 p)
-  if kind.0 == 1 then compile_at s at wide kind.1 else Ok None
+  if kind.0 == DW_UT_compile then compile_at s at wide kind.1 else Ok None
 
 -- the root of the unit at this place, whose version is next: units of versions 2 to 4 are passed over
 abbrev pub unit_at : SectionBytes → ℕ → Bool → Input → Result (Option Root) InfoFault

@@ -5,12 +5,10 @@ ghost use Rattle.info_roots.specs.Tables.{TakesTable};
 ghost use Rattle.info_roots.specs.Abbreviations.{attribute_at, ends, attributes_at, declaration_at, abbreviation_in, abbreviation_of, declaration_of};
 ghost use Rattle.info_roots.specs.declared.abbreviation.TableFault.TheVariants.{NoMemory as RanOut, Field as BadField};
 
+use crate::dwarf::DW_FORM_IMPLICIT_CONST;
 use mac_base::{Cursor, CursorFault, NoMemory};
 use std::alloc::{AllocFailed, Global};
 use std::marker::Model;
-
-/// `DW_FORM_implicit_const`, whose value stands in the abbreviation (7.5.6).
-const IMPLICIT_CONST: u64 = 0x21;
 
 /// The name and the form of an attribute, as numbers.
 #[derive(Clone, Copy, Debug, PartialEq, Eq)]
@@ -112,8 +110,8 @@ impl<'a> Abbreviations<'a> {
     }
 }
 
-/// The first abbreviation with a code in the table at an offset of `.debug_abbrev`, if it can be read. What stands
-/// behind it is not read.
+/// The first abbreviation with a code in the table at an offset of `.debug_abbrev`, if it can be read. What follows it
+/// is not read.
 fn find_abbreviation(
     alloc: Global,
     section: &[u8],
@@ -189,7 +187,7 @@ fn read_attribute(cursor: &mut Cursor<'_>) -> Result<Attribute, CursorFault>
 {
     let name = cursor.uleb()?;
     let form = cursor.uleb()?;
-    if form == IMPLICIT_CONST {
+    if form == DW_FORM_IMPLICIT_CONST {
         let _value = cursor.sleb()?;
     }
     Ok(Attribute { name, form })

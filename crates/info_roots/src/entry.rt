@@ -6,11 +6,12 @@ ghost use Rattle.info_roots.specs.Faults.{Passes};
 ghost use Rattle.info_roots.specs.Entries.{role_by_name, form_fits, form_names, inner_by_code, passed_at, fitting, attribute_read, entry_at, entry_of, no_entry, with_role, text_of, text_by, number_in};
 
 use crate::abbreviation::Attribute;
+use crate::dwarf::{
+    DW_AT_COMP_DIR, DW_AT_MACROS, DW_AT_NAME, DW_AT_STMT_LIST, DW_AT_STR_OFFSETS_BASE,
+    DW_FORM_INDIRECT,
+};
 use crate::fault::{InfoFault, InfoKind};
 use mac_base::{Cursor, Form, Sizes, Value, form_of, read_value};
-
-/// `DW_FORM_indirect`: the form stands in front of the value (7.5.3).
-const INDIRECT: u64 = 0x16;
 
 /// What an attribute is read for (7.5.4).
 #[derive(Clone, Copy, Debug, PartialEq, Eq)]
@@ -50,7 +51,7 @@ pub struct Entry<'a> {
     pub line: Option<u64>,
     pub str_base: Option<u64>,
     pub macros: Option<u64>,
-    /// Whether the directory stands before the name.
+    /// Whether the directory comes before the name.
     pub dir_first: bool,
 }
 
@@ -120,11 +121,11 @@ fn role_of(entry: &Entry<'_>, name: u64) -> Role
     ensures { result ≡ role_by_name (entry_of entry.now) name }
 {
     match name {
-        0x03 if entry.name.is_none() => Role::Name,
-        0x10 if entry.line.is_none() => Role::Line,
-        0x1b if entry.dir.is_none() => Role::Dir,
-        0x72 if entry.str_base.is_none() => Role::StrBase,
-        0x79 if entry.macros.is_none() => Role::Macros,
+        DW_AT_NAME if entry.name.is_none() => Role::Name,
+        DW_AT_STMT_LIST if entry.line.is_none() => Role::Line,
+        DW_AT_COMP_DIR if entry.dir.is_none() => Role::Dir,
+        DW_AT_STR_OFFSETS_BASE if entry.str_base.is_none() => Role::StrBase,
+        DW_AT_MACROS if entry.macros.is_none() => Role::Macros,
         _ => Role::Other,
     }
 }
@@ -161,7 +162,7 @@ fn pass_value(cursor: &mut Cursor<'_>, sizes: Sizes, form: u64) -> Result<(), In
     ensures { Passes cursor.new result (passed_at sizes form cursor.old) }
 {
     let at = cursor.at() as u64;
-    let known = if form == INDIRECT {
+    let known = if form == DW_FORM_INDIRECT {
         inner_form(cursor.uleb()?)
     } else {
         form_of(form)

@@ -2,15 +2,20 @@
 #![tactic(auto)]
 
 mod abbreviation;
+mod dwarf;
 mod entry;
 mod fault;
+mod laws;
 mod root;
 mod roots;
 #[cfg(test)]
 mod tests;
 mod text;
 mod unit;
+mod written;
 
 pub use fault::{InfoFault, InfoKind};
+pub use laws::{roots_are_exact, written_roots_are_read};
 pub use root::Root;
 pub use roots::read_roots;
+pub use written::write_roots;

@@ -49,7 +49,7 @@ fn read_next<'a>(
     Ok(extent.end)
 }
 
-/// The root of the unit that lies here, if it has one.
+/// The root of the unit in this extent, if it has one.
 fn read_root<'a>(
     alloc: Global,
     s: &Sections<'a>,

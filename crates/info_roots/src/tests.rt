@@ -1,5 +1,5 @@
-use crate::{InfoFault, InfoKind, Root, read_roots};
-use mac_base::Sections;
+use crate::{InfoFault, InfoKind, Root, read_roots, write_roots};
+use mac_base::{Bytes, Sections};
 use std::alloc::{AllocError, Global};
 use std::test::Fail;
 
@@ -27,7 +27,7 @@ fn sections<'a>(info: &'a [u8], abbrevs: &'a [u8]) -> Sections<'a> {
     }
 }
 
-/// A unit of version 5 and 32 bits with 8-byte addresses, whose first entry stands at 0xc.
+/// A unit of version 5 and 32 bits with 8-byte addresses, whose first entry is at 0xc.
 fn unit(alloc: Global, entry: &[u8]) -> Result<Vec<u8>, AllocError> {
     let mut bytes = Vec::new(alloc);
     bytes.push((entry.len() % 128) as u8 + 8)?;
@@ -65,6 +65,49 @@ fn a_written_root_is_read(rt: HostRuntime) -> Result<(), Fail> {
 }
 
 #[test]
+fn roots_are_written_in_both_formats(rt: HostRuntime) -> Result<(), Fail> {
+    let alloc = rt.alloc();
+    let mut roots = Vec::new(alloc);
+    roots.push(Root {
+        name: Bytes::from_slice(alloc, b"m.c")?,
+        dir: Bytes::from_slice(alloc, b".")?,
+        macros: 10,
+        line: Some(0),
+        str_base: None,
+        wide: false,
+    })?;
+    roots.push(Root {
+        name: Bytes::new(alloc),
+        dir: Bytes::from_slice(alloc, b"/t")?,
+        macros: 0x0102,
+        line: None,
+        str_base: Some(16),
+        wide: true,
+    })?;
+    let (info, abbrevs) = write_roots(alloc, roots.as_slice())?;
+    assert_eq!(rt; abbrevs.as_slice(), WRITTEN);
+    assert_eq!(rt; &info.as_slice()[..LINKED.len()], LINKED);
+    assert_eq!(rt;
+        &info.as_slice()[LINKED.len()..],
+        b"\xff\xff\xff\xff\x21\0\0\0\0\0\0\0\x05\0\x01\x08\0\0\0\0\0\0\0\0\x04\0/t\0\x02\x01\0\0\0\0\0\0\x10\0\0\0\0\0\0\0".as_slice()
+    );
+    let again = read_roots(alloc, &sections(info.as_slice(), abbrevs.as_slice()))?;
+    assert_eq!(rt; again.len(), 2);
+    assert!(rt;
+        of(&again[1])
+            == (
+                b"".as_slice(),
+                b"/t".as_slice(),
+                0x0102,
+                None,
+                Some(16),
+                true
+            )
+    );
+    Ok(())
+}
+
+#[test]
 fn other_units_give_no_root(rt: HostRuntime) -> Result<(), Fail> {
     let alloc = rt.alloc();
     let mut info = Vec::new(alloc);
@@ -98,7 +141,7 @@ fn attributes_are_read_in_their_forms(rt: HostRuntime) -> Result<(), Fail> {
             b"t.c",
             7,
         ),
-        // By index, with the base behind them.
+        // By index, with the base after them.
         (
             b"\x03\x25\x1b\x1a\x72\x17\x79\x17",
             b"\x01\0\x01\x08\0\0\0\x07\0\0\0",
@@ -281,7 +324,7 @@ fn a_table_that_cannot_be_read_has_no_abbreviation(rt: HostRuntime) -> Result<()
             })
         );
     }
-    // What stands behind the abbreviation is not read.
+    // What follows the abbreviation is not read.
     let roots = read_roots(
         alloc,
         &sections(info.as_slice(), b"\x02\x11\0\x79\x17\0\0\x80"),

@@ -4,18 +4,13 @@ ghost use Rattle.info_roots.specs.Faults.{Answers};
 ghost use Rattle.info_roots.specs.Units.{unit_at, fields_at, first_at};
 
 use crate::abbreviation::Abbreviations;
+use crate::dwarf::{DW_TAG_COMPILE_UNIT, DW_UT_COMPILE};
 use crate::entry::read_entry;
 use crate::fault::{InfoFault, InfoKind};
 use crate::root::Root;
 use crate::text::root_of;
 use mac_base::{Cursor, Sections, Sizes, read_offset};
 use std::alloc::Global;
-
-/// `DW_UT_compile` (7.5.1).
-const COMPILE: u8 = 1;
-
-/// `DW_TAG_compile_unit` (7.5.3).
-const COMPILE_UNIT: u64 = 0x11;
 
 /// Reads a unit from its version on: its root, if it has one.
 pub fn read_unit<'a>(
@@ -52,7 +47,7 @@ fn read_fields<'a>(
     ensures root { Answers (λ root. root) result (fields_at (bytes_of s.now) at wide cursor.old) }
     ensures kept { abbreviations.new.section ≡ abbreviations.old.section }
 {
-    if cursor.u8()? != COMPILE {
+    if cursor.u8()? != DW_UT_COMPILE {
         return Ok(None);
     }
     let address = cursor.u8()?;
@@ -72,7 +67,7 @@ fn read_fields<'a>(
     )
 }
 
-/// The same from its first entry on, whose abbreviation stands in the table at this place.
+/// The same from its first entry on, whose abbreviation is in the table at this place.
 #[tactic(auto, unfolding(crate::specs::Units::first_at))]
 fn read_first<'a>(
     alloc: Global,
@@ -97,7 +92,7 @@ fn read_first<'a>(
     let Some(abbreviation) = abbreviations.found() else {
         return Err(InfoFault::new(place, InfoKind::Abbrev));
     };
-    if abbreviation.tag != COMPILE_UNIT {
+    if abbreviation.tag != DW_TAG_COMPILE_UNIT {
         return Ok(None);
     }
     let entry = read_entry(cursor, sizes, abbreviation.attributes.as_slice())?;
