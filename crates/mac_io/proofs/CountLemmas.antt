@@ -1,11 +1,11 @@
 -- Objects that are asked one at a time: what they tell together, and their counts.
-use Rattle.std.proofs.Common.{◌≡◌, ℕ, ◌+◌, ◌<◌, ◌≤◌, ◌^◌, ◌-◌, List, length, map, get_or, set, min, Option, ap, sym, ◌∙◌, subst, arith}
+use Rattle.std.proofs.Common.{◌≡◌, ℕ, ◌+◌, ◌<◌, ◌≤◌, ◌^◌, ◌-◌, List, length, map, get_or, set, min, Option, refl, ap, sym, ◌∙◌, subst, arith}
 use Rattle.std.specs.List.{sum_by}
-use Rattle.std.proofs.lemmas.List.{length-map}
+use Rattle.std.proofs.lemmas.List.{length-map, map-set, get_or-map}
 use Rattle.std.proofs.Math.Seq.{map-set_same}
 use Rattle.std.proofs.lemmas.List.Sums.{sum_by-set, get_or-le-sum_by}
 use Rattle.mac_io.specs.Files.{Files}
-use Rattle.mac_io.specs.Causes.{HasCause, capped}
+use Rattle.mac_io.specs.Causes.{HasCause, HasStoreCause, Counts, Rose, capped}
 
 both : (l m : List ℕ) (f h : Option Files) → l ≡ m → f ≡ h → ◌≡◌ {A = List ℕ × Option Files} (l, f) (m, h)
 both l m f h is same = cc
@@ -50,3 +50,21 @@ pub cause_of_one : {A : Type 0} (count : A → ℕ) (retired : ℕ) (xs : List A
 cause_of_one count retired xs i new old failed within is cause =
     capped_cause retired (sum_by count xs) (sum_by count (set xs i new)) (count old) (count new) failed
     (sum_moved count xs i new old within is) (sum_part count xs i old within is) cause
+
+-- the count that rose is that of this store
+pub store_cause_of_one : {A : Type 0} (count : A → ℕ) (retired : ℕ) (xs : List A) (i : ℕ) (new old : A) (failed : Type 0) → i < length xs → old ≡ get_or xs i old → HasCause (count old) (count new) failed → HasStoreCause (record { retired = retired; stores = map count xs }) (record { retired = retired; stores = map count (set xs i new) }) failed
+store_cause_of_one count retired xs i new old failed within is cause =
+    let here : get_or (map count xs) i 0 ≡ count old = get_or-map count xs i old 0 within ∙ ap count (sym is) in
+    record {
+      retired = refl;
+      rose = λ f. (i, count new, omega (arith, within, length-map xs count), subst (λ n. Rose n (count new)) (sym here) (cause.rose f), map-set count xs i new);
+      kept = λ n. ap (λ (counts : List ℕ). record { retired = retired; stores = counts }) (map-set_same count xs i new old (cause.kept n ∙ ap count is));
+    }
+
+-- two paths whose counts agree in both parts
+pub same_counts : (one other : Counts) → one.retired ≡ other.retired → one.stores ≡ other.stores → one ≡ other
+same_counts one other retired stores = ap (λ (n : ℕ). record { retired = n; stores = one.stores }) retired ∙ ap (λ (ns : List ℕ). record { retired = other.retired; stores = ns }) stores
+
+-- one that is over the folder that it was over
+pub folders_same : {A : Type 0} (folder : A → Option (List ℕ)) (xs : List A) (i : ℕ) (new old : A) → old ≡ get_or xs i old → folder new ≡ folder old → map folder (set xs i new) ≡ map folder xs
+folders_same folder xs i new old is same = map-set_same folder xs i new old (same ∙ ap folder is)

@@ -1,7 +1,7 @@
 -- The files of a store, by name. A store may tell them or not.
-use Rattle.std.specs.Prelude.{◌≡◌, ◌≢◌, ℕ, Bool, true, not, ◌&&◌, List, [], ◌∷◌, Option, None, Some}
+use Rattle.std.specs.Prelude.{◌≡◌, ◌≢◌, ◌<◌, ℕ, Bool, true, not, ◌&&◌, List, [], ◌∷◌, Option, None, Some}
 use Rattle.std.specs.Option.{option_map}
-use Rattle.std.specs.List.{list_any, zip}
+use Rattle.std.specs.List.{All, list_any, zip}
 use Rattle.std.specs.Ordering.{nat_cmp}
 use Rattle.std.specs.Str.{bytes_eq}
 use Rattle.std.specs.Cmp.Lexicographic.{slice_cmp}
@@ -11,9 +11,14 @@ use Rattle.std.specs.FinMap as map
 abbrev pub Files : Type 0
 Files = map.FinMap (slice_cmp nat_cmp) (List ℕ)
 
--- `file` is what a store has at a name: what it tells, and any where it doesn't tell
+-- the content of a file, where there is one, is a list of bytes
+abbrev pub AreBytes : Option (List ℕ) → Type 0
+AreBytes None = Unit {0}
+AreBytes (Some bytes) = All (λ byte. byte < 256) bytes
+
+-- `file` is what a store has at a name: what it tells; where it doesn't tell, no file or any bytes
 abbrev pub IsFileAt : Option Files → List ℕ → Option (List ℕ) → Type 0
-IsFileAt None name file = Unit {0}
+IsFileAt None name file = AreBytes file
 IsFileAt (Some files) name file = map.get files name ≡ file
 
 -- the files with these bytes at the name
@@ -31,7 +36,7 @@ SameBut (Some old) None name = ⊥
 abbrev pub files_of : List (List ℕ) → List (List ℕ) → Files
 files_of names contents = map.from_entries (zip names contents)
 
--- no name stands twice
+-- no name occurs twice
 abbrev pub are_distinct : List (List ℕ) → Bool
 are_distinct [] = true
 are_distinct (name ∷ names) = not (list_any (λ other. bytes_eq other name) names) && are_distinct names

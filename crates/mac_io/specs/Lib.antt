@@ -5,3 +5,4 @@ pub mod InMemory
 pub mod Codes
 pub mod Search
 pub mod SearchLaws
+pub mod System

@@ -1,5 +1,5 @@
 -- Where a header is looked for, and what the search answers (C17 6.10.2, which leaves the places to the implementation).
-use Rattle.std.specs.Prelude.{◌≡◌, ℕ, ◌-◌, ◌==◌, Bool, false, not, if◌then◌else◌, List, [], ◌∷◌, ◌++◌, length, map, take, reverse, Option, None}
+use Rattle.std.specs.Prelude.{◌≡◌, ℕ, ◌-◌, ◌==◌, Bool, false, not, if◌then◌else◌, List, [], ◌∷◌, ◌++◌, length, map, take, reverse, Option, None, Some}
 use Rattle.std.specs.List.{All, range_with_len, prefix_len, slice_index_or}
 use Rattle.mac_io.specs.Files.{Files, IsFileAt}
 use Rattle.mac_io.specs.Calls.{FetchesFrom}
@@ -31,7 +31,7 @@ abbrev pub is_absolute : List ℕ → Bool
 is_absolute [] = false
 is_absolute (byte ∷ bytes) = byte == slash
 
--- a name without what stands behind its last `/`; nothing where it has no `/`
+-- a name up to and with its last `/`; nothing where it has no `/`
 abbrev pub folder_of : List ℕ → List ℕ
 folder_of name = take (length name - prefix_len (λ byte. not (byte == slash)) (reverse name)) name
 
@@ -45,7 +45,7 @@ abbrev pub behind : ℕ → List ℕ → List FileId
 behind count name = map (λ number. record { store = number; name = name }) (range_with_len 1 (count - 1))
 
 -- the files that a search asks for, in order: a name that begins with `/` in the first store alone; any other beside the
--- includer, and then in the stores behind the first
+-- includer, and then in the stores after the first
 abbrev pub candidates : ℕ → FileId → Form → List ℕ → List FileId
 candidates count includer form name = if is_absolute name then record { store = 0; name = name } ∷ [] else beside includer form name ++ behind count name
 
@@ -74,7 +74,11 @@ OnFound TooLong P = Unit {0}
 OnFound Failed P = Unit {0}
 OnFound NoMemory P = Unit {0}
 
--- the path of a file, by the label of its store and its name
+-- the path of a file, by the label of its store and its name there
 abbrev pub path_text : List ℕ → List ℕ → List ℕ
 path_text [] name = name
 path_text (byte ∷ label) name = (byte ∷ label) ++ slash ∷ name
+
+-- each store is over the folder that its label names
+abbrev pub AreOverLabels : List (List ℕ × Option Files) → List (Option (List ℕ)) → Type 0
+AreOverLabels stores folders = folders ≡ map (λ (store : List ℕ × Option Files). Some store.0) stores

@@ -1,7 +1,9 @@
-ghost use Rattle.std.specs.Prelude.{◌≡◌, ℕ, None};
+ghost use Rattle.std.specs.Prelude.{◌≡◌, ℕ, None, Some, IfOk};
+ghost use Rattle.mac_io.specs.Search.{path_text};
+ghost use Rattle.mac_io.specs.System.{Folder};
 
-use crate::dir_shelf::fetch;
 use crate::path_text::path_text;
+use crate::real_file::{Wanted, fetch};
 use crate::shelf::Fetched;
 use crate::store::HeaderStore;
 use mac_base::{Bytes, NoMemory};
@@ -9,8 +11,8 @@ use std::alloc::Global;
 use std::marker::Model;
 use std::rt::Files;
 
-/// The files of a folder; of the working folder where its path is empty. It tells nothing of them; contracts see how often
-/// a call has failed.
+/// The files of a folder; of the working folder where its path is empty. It tells nothing of them; contracts see the path of
+/// the folder and how often a call has failed.
 #[derive(Drop)]
 pub struct DirStore<R: Files + Drop> {
     alloc: Global,
@@ -20,17 +22,17 @@ pub struct DirStore<R: Files + Drop> {
 }
 
 impl<R: Files + Drop> Model for DirStore<R> {
-    ghost use Rattle.std.specs.Prelude.{ℕ};
+    ghost use Rattle.mac_io.specs.System.{Folder};
 
-    ghost Value = { ℕ };
+    ghost Value = { Folder };
 
-    ghost view = { λ store. store.faults };
+    ghost view = { λ store. record { path = store.folder; faults = store.faults } };
 }
 
 impl<R: Files + Drop> DirStore<R> {
-    /// The files under a folder, with no fault so far.
+    /// The files of a folder, with no fault so far.
     pub fn new(alloc: Global, rt: R, folder: Bytes) -> DirStore<R>
-        ensures { result ≡ 0 }
+        ensures { result ≡ record { path = folder; faults = 0 } }
     {
         DirStore {
             alloc,
@@ -39,19 +41,27 @@ impl<R: Files + Drop> DirStore<R> {
             faults: 0,
         }
     }
+
+    /// The path that is opened for a name.
+    fn opened_path(&self, name: &[u8]) -> Result<Bytes, NoMemory>
+        ensures { IfOk result (λ path. path ≡ path_text self.now.path name.now) }
+    {
+        path_text(self.alloc, self.folder.as_slice(), name)
+    }
 }
 
 impl<R: Files + Drop> HeaderStore for DirStore<R> {
     ghost files = { λ _. None };
 
-    ghost count = { λ store. store };
+    ghost count = { λ store. store.faults };
+
+    ghost folder = { λ store. Some store.path };
 
     fn fetch(&mut self, name: &[u8], limit: usize, into: &mut Vec<u8>) -> Fetched {
-        let path = match path_text(self.alloc, self.folder.as_slice(), name) {
-            Ok(path) => path,
-            Err(NoMemory) => return Fetched::NoMemory,
+        let Ok(path) = self.opened_path(name) else {
+            return Fetched::NoMemory;
         };
-        let answer = fetch(&self.rt, path.as_slice(), limit, into);
+        let answer = fetch(&self.rt, Wanted::Header, path.as_slice(), limit, into);
         if matches!(answer, Fetched::Failed) {
             self.faults = self.faults.saturating_add(1);
         }

@@ -10,6 +10,8 @@ mod laws;
 mod map_shelf;
 mod map_store;
 mod path_text;
+mod real_file;
+mod replace;
 mod search;
 mod search_path;
 mod shelf;
@@ -21,9 +23,10 @@ mod vec_sink;
 pub use dir_shelf::DirShelf;
 pub use dir_store::DirStore;
 pub use headers::{FileId, Form, Headers, Located};
-pub use laws::search_has_one_answer;
+pub use laws::{search_has_one_answer, search_is_decided};
 pub use map_shelf::{MapShelf, are_distinct};
 pub use map_store::MapStore;
+pub use real_file::each_is_a_byte;
 pub use search_path::SearchPath;
 pub use shelf::{Fetched, Put, Shelf};
 pub use sink::{Sink, Wrote};
@@ -33,5 +36,7 @@ pub use vec_sink::VecSink;
 
 #[cfg(test)]
 mod path_tests;
+#[cfg(test)]
+mod real_tests;
 #[cfg(test)]
 mod tests;

@@ -8,6 +8,7 @@ use mac_base::{Bytes, NoMemory, Paths};
 use std::alloc::Global;
 use std::fs;
 use std::io::Write;
+use std::os::unix::fs::symlink;
 use std::process::Abort;
 use std::test::Fail;
 
@@ -237,6 +238,7 @@ fn a_source_file_has_at_most_16777216_bytes(rt: HostRuntime) -> Result<(), Fail>
 fn real_headers_are_found(rt: HostRuntime) -> Result<(), Fail> {
     let alloc = rt.alloc();
     fs::create(&rt, "q.h")?.write_all(b"q.h")?;
+    symlink(&rt, "loop", "loop")?;
     let first = Box::new(alloc, DirStore::new(alloc, rt, bytes_of(alloc, b"")?))?;
     let one = Box::new(alloc, DirStore::new(alloc, rt, bytes_of(alloc, b".")?))?;
     let two = Box::new(alloc, DirStore::new(alloc, rt, bytes_of(alloc, b"no")?))?;
@@ -246,7 +248,9 @@ fn real_headers_are_found(rt: HostRuntime) -> Result<(), Fail> {
         asked(0, b"u.c", Form::Angle, b"q.h", b"one/q.h"),
         asked(0, b"u.c", Form::Quote, b"none.h", b"absent"),
         asked(0, b"u.c", Form::Quote, b"\xff", b"absent"),
-        asked(0, b"u.c", Form::Angle, b".", b"failed"),
+        asked(0, b"u.c", Form::Angle, b".", b"absent"),
+        asked(0, b"u.c", Form::Angle, b"q.h/x.h", b"absent"),
+        asked(0, b"u.c", Form::Angle, b"loop", b"failed"),
     ];
     check_all(&rt, alloc, &mut path, &cases)?;
     assert_eq!(rt; path.faults(), 1);

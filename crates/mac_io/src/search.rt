@@ -1,5 +1,5 @@
 ghost use Rattle.std.specs.Prelude.{◌≡◌, ◌<◌, ℕ, List, [], ◌∷◌, ◌++◌, length, Option, IfOk};
-ghost use Rattle.mac_io.specs.Causes.{HasCause};
+ghost use Rattle.mac_io.specs.Causes.{HasCause, HasStoreCause, Counts};
 ghost use Rattle.mac_io.specs.Files.{Files};
 ghost use Rattle.mac_io.specs.Calls.{FetchesFrom};
 ghost use Rattle.mac_io.specs.Search.{Finds, OnFound, candidates, behind, beside, source_limit, told_by};
@@ -18,6 +18,12 @@ pub trait Stores {
     /// How often a call has failed.
     ghost count: { Self → ℕ };
 
+    /// The count of faults of each store, and what was counted of stores that were dropped.
+    ghost counts: { Self → Counts };
+
+    /// The folder that each store is over, where it is over one.
+    ghost folders: { Self → List (Option (List ℕ)) };
+
     /// How many stores there are.
     fn number(&self) -> u32
         ensures { result ≡ length (stores self.now) };
@@ -27,7 +33,9 @@ pub trait Stores {
         requires { store < length (stores self.old) }
         ensures answer { FetchesFrom (told_by (stores self.old) store) name.now source_limit result into.old.items into.new.items }
         ensures same { stores self.new ≡ stores self.old }
-        ensures cause { HasCause (count self.old) (count self.new) (result ≡ Fetched.Failed) };
+        ensures places { folders self.new ≡ folders self.old }
+        ensures cause { HasCause (count self.old) (count self.new) (result ≡ Fetched.Failed) }
+        ensures store_cause { HasStoreCause (counts self.old) (counts self.new) (result ≡ Fetched.Failed) };
 }
 
 /// Asks the candidates of a search one after another.
@@ -43,7 +51,9 @@ pub fn find<S: Stores>(
     ensures answer { Finds (S.stores stores.old) (candidates (length (S.stores stores.old)) includer.now form name.now) result into.old.items into.new.items }
     ensures store { OnFound result (λ id. id.store < length (S.stores stores.old)) }
     ensures same { S.stores stores.new ≡ S.stores stores.old }
+    ensures places { S.folders stores.new ≡ S.folders stores.old }
     ensures cause { HasCause (S.count stores.old) (S.count stores.new) (result ≡ Located.Failed) }
+    ensures store_cause { HasStoreCause (S.counts stores.old) (S.counts stores.new) (result ≡ Located.Failed) }
 {
     if is_absolute(name) {
         return ask(alloc, stores, 0, name, into);
@@ -68,7 +78,9 @@ fn ask_beside<S: Stores>(
     ensures answer { Finds (S.stores stores.old) (beside includer.now form name.now) result into.old.items into.new.items }
     ensures store { OnFound result (λ id. id.store < length (S.stores stores.old)) }
     ensures same { S.stores stores.new ≡ S.stores stores.old }
+    ensures places { S.folders stores.new ≡ S.folders stores.old }
     ensures cause { HasCause (S.count stores.old) (S.count stores.new) (result ≡ Located.Failed) }
+    ensures store_cause { HasStoreCause (S.counts stores.old) (S.counts stores.new) (result ≡ Located.Failed) }
 {
     match form {
         Form::Angle => Located::Absent,
@@ -79,12 +91,14 @@ fn ask_beside<S: Stores>(
     }
 }
 
-/// Asks each store behind the first, until one has something else to say than that the file is absent.
+/// Asks each store after the first, until one answers something else than that the file is absent.
 fn ask_behind<S: Stores>(alloc: Global, stores: &mut S, name: &[u8], into: &mut Vec<u8>) -> Located
     ensures answer { Finds (S.stores stores.old) (behind (length (S.stores stores.old)) name.now) result into.old.items into.new.items }
     ensures store { OnFound result (λ id. id.store < length (S.stores stores.old)) }
     ensures same { S.stores stores.new ≡ S.stores stores.old }
+    ensures places { S.folders stores.new ≡ S.folders stores.old }
     ensures cause { HasCause (S.count stores.old) (S.count stores.new) (result ≡ Located.Failed) }
+    ensures store_cause { HasStoreCause (S.counts stores.old) (S.counts stores.new) (result ≡ Located.Failed) }
 {
     for store in 1..stores.number() {
         let answer = ask(alloc, stores, store, name, into);
@@ -107,7 +121,9 @@ pub fn ask<S: Stores>(
     ensures answer { Finds (S.stores stores.old) (record { store = store; name = name.now } ∷ []) result into.old.items into.new.items }
     ensures store { OnFound result (λ id. id.store < length (S.stores stores.old)) }
     ensures same { S.stores stores.new ≡ S.stores stores.old }
+    ensures places { S.folders stores.new ≡ S.folders stores.old }
     ensures cause { HasCause (S.count stores.old) (S.count stores.new) (result ≡ Located.Failed) }
+    ensures store_cause { HasStoreCause (S.counts stores.old) (S.counts stores.new) (result ≡ Located.Failed) }
 {
     let start = into.len();
     match stores.fetch(store, name, into) {
@@ -128,11 +144,11 @@ pub fn ask<S: Stores>(
     }
 }
 
-/// One text behind the other.
-fn joined(alloc: Global, front: &[u8], back: &[u8]) -> Result<Bytes, NoMemory>
-    ensures { IfOk result (λ text. text ≡ front.now ++ back.now) }
+/// One text and then the other.
+fn joined(alloc: Global, first: &[u8], second: &[u8]) -> Result<Bytes, NoMemory>
+    ensures { IfOk result (λ text. text ≡ first.now ++ second.now) }
 {
-    let mut text = Vec::from_slice(alloc, front)?;
-    text.extend_from_slice(back)?;
+    let mut text = Vec::from_slice(alloc, first)?;
+    text.extend_from_slice(second)?;
     Ok(Bytes::from_vec(text))
 }

@@ -27,6 +27,7 @@ impl Labelled {
         ensures label { self.new.label ≡ self.old.label }
         ensures answer { FetchesFrom (files self.old.store) name.now source_limit result into.old.items into.new.items }
         ensures same { files self.new.store ≡ files self.old.store }
+        ensures place { folder self.new.store ≡ folder self.old.store }
         ensures cause { HasCause (count self.old.store) (count self.new.store) (result ≡ Fetched.Failed) }
     {
         self.store.fetch(name, SOURCE_LIMIT, into)
@@ -44,7 +45,7 @@ impl Labelled {
 pub struct SearchPath {
     alloc: Global,
     stores: Vec<Labelled>,
-    /// The faults of stores that were dropped.
+    /// How many faults the stores had that were dropped.
     retired: u64,
     ghost numbered: { vec_len stores ≤ 4294967295 },
 }
@@ -54,6 +55,8 @@ impl SearchPath {
     pub fn new(alloc: Global) -> SearchPath
         ensures stores { ⟦<SearchPath as Headers>⟧.stores result ≡ [] }
         ensures count { ⟦<SearchPath as Headers>⟧.count result ≡ 0 }
+        ensures counts { ⟦<SearchPath as Headers>⟧.counts result ≡ record { retired = 0; stores = [] } }
+        ensures folders { ⟦<SearchPath as Headers>⟧.folders result ≡ [] }
     {
         SearchPath {
             alloc,
@@ -62,7 +65,7 @@ impl SearchPath {
         }
     }
 
-    /// Puts a store behind the others. Where memory runs out both come back, and nothing has changed.
+    /// Puts a store after the others. Where memory runs out both come back, and nothing has changed.
     pub fn push(
         &mut self,
         label: Bytes,
@@ -71,6 +74,8 @@ impl SearchPath {
         requires { length (⟦<SearchPath as Headers>⟧.stores self.old) < 4294967295 }
         ensures stores { OnOk result (⟦<SearchPath as Headers>⟧.stores self.new ≡ ⟦<SearchPath as Headers>⟧.stores self.old ++ (label, files store) ∷ []) }
         ensures count { OnOk result (⟦<SearchPath as Headers>⟧.count self.new ≡ capped (⟦<SearchPath as Headers>⟧.count self.old + count store)) }
+        ensures counts { OnOk result (⟦<SearchPath as Headers>⟧.counts self.new ≡ (let before = ⟦<SearchPath as Headers>⟧.counts self.old in record { retired = before.retired; stores = before.stores ++ count store ∷ [] })) }
+        ensures folders { OnOk result (⟦<SearchPath as Headers>⟧.folders self.new ≡ ⟦<SearchPath as Headers>⟧.folders self.old ++ folder store ∷ []) }
         ensures back { IfErr result (λ back. back ≡ (label, store)) }
         ensures same { OnErr result ((⟦<SearchPath as Headers>⟧.stores self.new ≡ ⟦<SearchPath as Headers>⟧.stores self.old) × (⟦<SearchPath as Headers>⟧.count self.new ≡ ⟦<SearchPath as Headers>⟧.count self.old)) }
     {
@@ -92,6 +97,10 @@ impl Stores for SearchPath {
 
     ghost count = { λ path. capped (path.retired + sum_by (λ s. (HeaderStore-box s.store).count s.store.value) path.stores.items) };
 
+    ghost counts = { λ path. record { retired = path.retired; stores = map (λ s. (HeaderStore-box s.store).count s.store.value) path.stores.items } };
+
+    ghost folders = { λ path. map (λ s. (HeaderStore-box s.store).folder s.store.value) path.stores.items };
+
     fn number(&self) -> u32 {
         self.stores.len() as u32
     }
@@ -108,6 +117,10 @@ impl Headers for SearchPath {
     ghost stores = { λ path. map (λ s. (s.label, (HeaderStore-box s.store).files s.store.value)) path.stores.items };
 
     ghost count = { λ path. capped (path.retired + sum_by (λ s. (HeaderStore-box s.store).count s.store.value) path.stores.items) };
+
+    ghost counts = { λ path. record { retired = path.retired; stores = map (λ s. (HeaderStore-box s.store).count s.store.value) path.stores.items } };
+
+    ghost folders = { λ path. map (λ s. (HeaderStore-box s.store).folder s.store.value) path.stores.items };
 
     fn find(&mut self, includer: &FileId, form: Form, name: &[u8], into: &mut Vec<u8>) -> Located {
         search::find(self.alloc, self, includer, form, name, into)
@@ -134,4 +147,9 @@ impl Headers for SearchPath {
         }
         faults
     }
+
+    ghost use Rattle.std.proofs.Common.{ap, sym};
+    ghost use Rattle.std.proofs.lemmas.List.Sums.{sum-map};
+
+    ghost counted = { λ path. ap (λ n. capped (path.retired + n)) (sym (sum-map _ path.stores.items)) };
 }

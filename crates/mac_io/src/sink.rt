@@ -7,7 +7,7 @@ ghost use Rattle.mac_io.specs.Calls.{Writes};
 pub enum Wrote {
     /// The piece was appended.
     Done,
-    /// The sink has a fault, which it has counted; a front of the piece was appended.
+    /// The sink has a fault, which it has counted; a prefix of the piece was appended.
     Failed,
 }
 
@@ -19,7 +19,7 @@ pub trait Sink {
     /// How often a call has failed.
     ghost count: { Self → ℕ };
 
-    /// Appends a piece of text; a front of it where the call fails.
+    /// Appends a piece of text; a prefix of it where the call fails.
     fn write(&mut self, piece: &[u8]) -> Wrote
         ensures answer { Writes (text self.old) (text self.new) piece.now result }
         ensures cause { HasCause (count self.old) (count self.new) (result ≡ Wrote.Failed) };

@@ -81,7 +81,7 @@ fn a_sink_in_memory_takes_what_fits(rt: HostRuntime) -> Result<(), Fail> {
 #[test]
 fn real_files_are_read_and_stored(rt: HostRuntime) -> Result<(), Fail> {
     let alloc = rt.alloc();
-    let mut shelf = DirShelf::new(rt);
+    let mut shelf = DirShelf::new(alloc, rt);
     assert_eq!(rt; shelf.put(b"a", b"three"), Put::Done);
     assert_eq!(rt; shelf.put(b"a", b"one"), Put::Done);
     check_get(&rt, alloc, &mut shelf, b"a", 3, Fetched::Found, b"one")?;
