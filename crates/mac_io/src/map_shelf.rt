@@ -103,7 +103,7 @@ impl Shelf for MapShelf {
     }
 }
 
-/// Whether no name stands twice.
+/// Whether no name occurs twice.
 pub fn are_distinct(names: &Paths) -> bool
     ensures { result ≡ are_distinct names.now }
 {
@@ -156,7 +156,7 @@ fn append(file: Option<&[u8]>, limit: usize, into: &mut Vec<u8>) -> Fetched
     }
 }
 
-/// Puts a content at the place of its name, or both behind the others.
+/// Puts a content at the place of its name, or both after the others.
 fn store(
     alloc: Global,
     names: &mut Vec<Bytes>,
@@ -182,7 +182,7 @@ fn store(
     }
 }
 
-/// Puts a name and its content behind the others.
+/// Puts a name and its content after the others.
 fn add(
     alloc: Global,
     names: &mut Vec<Bytes>,

@@ -19,7 +19,7 @@ pub fn folder_of(name: &[u8]) -> &[u8]
     &name[..name.len() - behind_slash(name)]
 }
 
-/// How many bytes stand behind the last `/`.
+/// How many bytes come after the last `/`.
 fn behind_slash(name: &[u8]) -> usize
     ensures { result ≡ prefix_len (λ byte. not (byte == slash)) (reverse name.now) }
 {
