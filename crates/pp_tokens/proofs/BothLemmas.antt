@@ -93,7 +93,7 @@ piece_no_end header (b ∷ bs) =
     by None = tt
     by (Some n) = comment_no_end
 
-no_line_end : (header : Bool) (bytes : List ℕ) (n : ℕ) → piece_at false header bytes ≡ Some (LineEnd, n) → ⊥
+pub no_line_end : (header : Bool) (bytes : List ℕ) (n : ℕ) → piece_at false header bytes ≡ Some (LineEnd, n) → ⊥
 no_line_end header bytes n is = subst NoEnd is (piece_no_end header bytes) refl
 
 -- the first token stays the first

@@ -92,7 +92,7 @@ in_table test (p ∷ ps) s all is =
     table_step test p s ps (same s p) parts.0 refl is (λ later. in_table test ps s parts.1 later)
 
 -- a byte that stands in no punctuator
-abbrev has : ℕ → List ℕ → Bool
+abbrev pub has : ℕ → List ℕ → Bool
 has x [] = false
 has x (b ∷ bs) = eqb x b || has x bs
 

@@ -24,3 +24,7 @@ pub mod BothLemmas
 pub mod AheadLemmas
 pub mod ReadBackLemmas
 pub mod RiseLemmas
+pub mod ExistLemmas
+pub mod PrintedLemmas
+pub mod LineLemmas
+pub mod SpelledLemmas

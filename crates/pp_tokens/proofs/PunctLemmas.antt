@@ -6,8 +6,9 @@ use borrow.Author.Tests.{eqb-true}
 use Rattle.pp_tokens.specs.declared.token.Kind.TheVariants.{Punct, Other}
 use Rattle.pp_tokens.specs.Kinds.{begins, same, is_digit, is_letter, is_word, is_quote, is_blank, is_number_rest, first_is, begins_number, punctuators, is_punct, is_one, kind_of}
 use Rattle.pp_tokens.specs.Cut.{longest}
-use Rattle.pp_tokens.specs.Scan.{punct_or, punctuator_length}
+use Rattle.pp_tokens.specs.Scan.{punct_or, search_order, punctuator_length}
 use Rattle.pp_tokens.proofs.KindLemmas.{kind_by, kind-from, clash, to_false, no_char, no_str}
+use Rattle.pp_tokens.proofs.CloseLemmas.{in_table}
 use Rattle.pp_tokens.proofs.LongestLemmas.{longest_cons, not_one, first_taken, or_true}
 
 begins_more : (b c : ℕ) (p bytes : List ℕ) (m : ℕ) (x : Bool) → eqb b c ≡ x → (x && same (take m bytes) p) ≡ true → (same (take m bytes) p ≡ true → (begins p bytes ≡ true) × (length p ≡ m)) →
@@ -163,20 +164,31 @@ other_none : (b : ℕ) (bs : List ℕ) (i : ℕ) → is_letter b ≡ false → b
 other_none b bs i letter number quote punct some within =
     other_kind b bs i false false false letter number quote punct (not_one is_quote b bs i some within) (not_one (λ c. not (is_blank c || eqb c 10)) b bs i some within)
 
-punct_by : (b : ℕ) (bs : List ℕ) (o : Option (List ℕ)) → is_letter b ≡ false → begins_number b bs ≡ false → is_quote b ≡ false → eqb b 10 ≡ false → is_blank b ≡ false → find (λ p. begins p (b ∷ bs)) punctuators ≡ o →
+-- the order of the search has the same texts as the table
+same_test : (x y : Bool) → (x ≡ true → y ≡ true) → (y ≡ true → x ≡ true) → x ≡ y
+same_test true y there back = sym (there refl)
+same_test false true there back = back refl
+same_test false false there back = refl
+
+punct-order : (s : List ℕ) → is_punct s ≡ list_any (same s) search_order
+punct-order s =
+    same_test (is_punct s) (list_any (same s) search_order)
+    (in_table (λ p. list_any (same p) search_order) punctuators s refl) (in_table (λ p. list_any (same p) punctuators) search_order s refl)
+
+punct_by : (b : ℕ) (bs : List ℕ) (o : Option (List ℕ)) → is_letter b ≡ false → begins_number b bs ≡ false → is_quote b ≡ false → eqb b 10 ≡ false → is_blank b ≡ false → find (λ p. begins p (b ∷ bs)) search_order ≡ o →
     longest (b ∷ bs) ≡ Some (punct_or (option_map length o))
 unfolding ordered
 punct_by b bs None letter number quote not_line_feed not_blank is =
     longest_cons b bs Other 0 (omega arith)
-    (other_kind b bs 0 false false true letter number quote (any_none punctuators (b ∷ bs) 1 (omega arith) is) quote (ap (λ x. not (x || eqb b 10)) not_blank ∙ ap not not_line_feed))
-    (λ i more most. other_none b bs i letter number quote (any_none punctuators (b ∷ bs) (suc i) (omega arith) is) more most)
-punct_by b bs (Some []) letter number quote not_line_feed not_blank is = absurd (clash false (filled punctuators (b ∷ bs) [] refl is) refl)
+    (other_kind b bs 0 false false true letter number quote (punct-order (b ∷ []) ∙ any_none search_order (b ∷ bs) 1 (omega arith) is) quote (ap (λ x. not (x || eqb b 10)) not_blank ∙ ap not not_line_feed))
+    (λ i more most. other_none b bs i letter number quote (punct-order (b ∷ take i bs) ∙ any_none search_order (b ∷ bs) (suc i) (omega arith) is) more most)
+punct_by b bs (Some []) letter number quote not_line_feed not_blank is = absurd (clash false (filled search_order (b ∷ bs) [] refl is) refl)
 punct_by b bs (Some (c ∷ p)) letter number quote not_line_feed not_blank is =
-    let at = found punctuators (b ∷ bs) (c ∷ p) refl is in
+    let at = found search_order (b ∷ bs) (c ∷ p) refl is in
     let fits : suc (length p) ≤ suc (length bs) = (begins_same (c ∷ p) (b ∷ bs) at.front).0 in
     longest_cons b bs Punct (length p) (omega arith)
-    (other_kind b bs (length p) true _ _ letter number quote at.there refl refl)
-    (λ i more most. other_none b bs i letter number quote (at.longer (suc i) (omega arith) (omega arith)) (omega arith) most)
+    (other_kind b bs (length p) true _ _ letter number quote (punct-order (b ∷ take (length p) bs) ∙ at.there) refl refl)
+    (λ i more most. other_none b bs i letter number quote (punct-order (b ∷ take i bs) ∙ at.longer (suc i) (omega arith) (omega arith)) (omega arith) most)
 
 pub punct_longest : (b : ℕ) (bs : List ℕ) → is_letter b ≡ false → begins_number b bs ≡ false → is_quote b ≡ false → eqb b 10 ≡ false → is_blank b ≡ false → longest (b ∷ bs) ≡ Some (punct_or (punctuator_length (b ∷ bs)))
-punct_longest b bs letter number quote not_line_feed not_blank = punct_by b bs (find (λ p. begins p (b ∷ bs)) punctuators) letter number quote not_line_feed not_blank refl
+punct_longest b bs letter number quote not_line_feed not_blank = punct_by b bs (find (λ p. begins p (b ∷ bs)) search_order) letter number quote not_line_feed not_blank refl

@@ -1,5 +1,5 @@
 -- The printed text is cut into its tokens again.
-use Rattle.std.proofs.Common.{◌≡◌, ℕ, eqb, Bool, true, false, cond, ◌&&◌, ◌||◌, List, [], ◌∷◌, ◌++◌, length, take, Option, Some, None, Ok, refl, sym, ◌∙◌, ap, subst, append_assoc, append-nil, inl, inr}
+use Rattle.std.proofs.Common.{◌≡◌, ℕ, eqb, Bool, true, false, cond, ◌&&◌, ◌||◌, List, [], ◌∷◌, ◌++◌, length, take, Option, Some, None, Result, Ok, refl, sym, ◌∙◌, ap, subst, append_assoc, append-nil, inl, inr}
 use Rattle.std.proofs.lemmas.List.{length-map}
 use Rattle.std.specs.List.{AllByRecursion}
 use lib.Chars.{codes}
@@ -11,7 +11,8 @@ use Rattle.pp_tokens.specs.Cleaning.{Char, bytes_of, on_line_one, first_nul}
 use Rattle.pp_tokens.specs.Kinds.{same, kind_of}
 use Rattle.pp_tokens.specs.Cut.{Page, Piece, no_page, put, put_all, with_token, chars_of, piece_at, header_may_stand, IsCut, LexesText}
 use Rattle.pp_tokens.specs.Printing.{SameToken, SameTokens, IsParted, IsGap, Prints}
-use Rattle.pp_tokens.specs.Laws.{IsPrintable, PrintedIsReadBack}
+use Rattle.pp_tokens.specs.declared.fault.LexFault.{LexFault}
+use Rattle.pp_tokens.specs.Laws.{IsAnswer, IsPrintable, PrintedIsReadBack}
 use Rattle.pp_tokens.proofs.UniqueLemmas.{text-unique}
 use Rattle.pp_tokens.proofs.BothLemmas.{bytes_back}
 use Rattle.pp_tokens.proofs.AheadLemmas.{Ahead, ahead-end, ahead-blank, ahead-next, token-stands}
@@ -171,10 +172,17 @@ prints_nul (t ∷ u ∷ ts) text all prints =
     ap (λ x. first_nul (on_line_one x)) prints.4
     ∙ nul_append (t.text ++ prints.0) prints.1 (nul_append t.text prints.0 all.0.no_nul (gap_nul t u prints.0 prints.2)) (prints_nul (u ∷ ts) prints.1 all.1 prints.3)
 
-pub printed-read_back : PrintedIsReadBack
+pub printed-lexes : PrintedIsReadBack
 unfolding NoHeader
-printed-read_back tokens text answer all none prints given lexed =
+printed-lexes tokens text all none prints =
     let laid = lay tokens no_page text all none prints in
     let page : Page = put_all no_page laid.pieces in
-    let own : LexesText text (Ok page.tokens) = (prints_nul tokens text all prints, page, (laid.pieces, laid.cut, refl), refl) in
-    (page.tokens, text-unique text answer (Ok page.tokens) given tt lexed own, subst (λ (ts : List Token). SameTokens ts tokens) (sym laid.tokens) laid.same)
+    (page.tokens, (prints_nul tokens text all prints, page, (laid.pieces, laid.cut, refl), refl), subst (λ (ts : List Token). SameTokens ts tokens) (sym laid.tokens) laid.same)
+
+-- the same, from an answer that is known
+pub printed-read_back : (tokens : List Token) (text : List ℕ) (answer : Result (List Token) LexFault) →
+    AllByRecursion IsPrintable tokens → header_may_stand (take 2 tokens) ≡ false → Prints tokens text → IsAnswer answer → LexesText text answer →
+    (found : List Token) × (answer ≡ Ok found) × SameTokens found tokens
+printed-read_back tokens text answer all none prints given lexed =
+    let own = printed-lexes tokens text all none prints in
+    (own.0, text-unique text answer (Ok own.0) given tt lexed own.1, own.2)

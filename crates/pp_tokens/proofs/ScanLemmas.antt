@@ -107,7 +107,7 @@ piece-fits lines header cs what n is =
     let fits : (1 ≤ n) × (n ≤ length (bytes_of cs)) = subst (Within (length (bytes_of cs))) is (piece-within lines header (bytes_of cs)) in
     (fits.0, omega (arith, fits.1, length-map cs (λ (c : Char). c.byte)))
 
-cut-more : (lines : Bool) (page : Page) (chars : List Char) (now : Page) (left : List Char) (what : What) (n : ℕ) (pieces : List Piece) (rest : List Char) →
+pub cut-more : (lines : Bool) (page : Page) (chars : List Char) (now : Page) (left : List Char) (what : What) (n : ℕ) (pieces : List Piece) (rest : List Char) →
     piece_at lines (header_may_stand page.tokens) (bytes_of chars) ≡ Some (what, n) → now ≡ put page what (take n chars) → left ≡ drop n chars →
     IsCut lines now left pieces rest → IsCut lines page chars (record { what = what; chars = take n chars } ∷ pieces) rest
 cut-more lines page chars now left what n pieces rest stands made behind cut =
@@ -171,7 +171,7 @@ map_none : (o : Option ℕ) → option_map {U = What × ℕ} (λ n. (Comment, 2 
 map_none None is = refl
 map_none (Some n) is = cc
 
-open_at : (lines header : Bool) (b : ℕ) (bs : List ℕ) → piece_at lines header (b ∷ bs) ≡ None → IsOpen (b ∷ bs)
+pub open_at : (lines header : Bool) (b : ℕ) (bs : List ℕ) → piece_at lines header (b ∷ bs) ≡ None → IsOpen (b ∷ bs)
 open_at lines header b bs is =
     let found = none_by (eqb b 10) (is_blank b) (begins (codes "//") (b ∷ bs)) (begins (codes "/*") (b ∷ bs)) (cond lines LineEnd Blank, 1) (Blank, 1) (Comment, suc (line_rest bs))
     (option_map (λ n. (Comment, 2 + n)) (up_to_close (drop 1 bs))) (token_at header (b ∷ bs)) is

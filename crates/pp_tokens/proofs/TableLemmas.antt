@@ -4,8 +4,8 @@ use Rattle.std.proofs.lemmas.List.{drop_more}
 use Rattle.std.specs.List.{find, list_all}
 use Rattle.std.specs.Option.{option_map}
 use Rattle.pp_tokens.specs.declared.punctuators.TheConstants.{PUNCTUATORS}
-use Rattle.pp_tokens.specs.Kinds.{begins, punctuators}
-use Rattle.pp_tokens.specs.Scan.{byte_or_zero, padded, fits, unpadded_length, punctuator_length}
+use Rattle.pp_tokens.specs.Kinds.{begins}
+use Rattle.pp_tokens.specs.Scan.{byte_or_zero, padded, fits, unpadded_length, search_order, punctuator_length}
 
 pub find-here : {X : Type 0} (test : X → Bool) (xs : List X) (i : ℕ) (d : X) → i < length xs → test (get_or xs i d) ≡ true → find test (drop i xs) ≡ Some (get_or xs i d)
 find-here test xs i d within passes = rw (drop_more xs i d within, passes) refl
@@ -69,7 +69,7 @@ padded_four (a ∷ b ∷ []) = refl
 padded_four (a ∷ b ∷ c ∷ []) = refl
 padded_four (a ∷ b ∷ c ∷ d ∷ bs) = refl
 
-same_table : all_padded punctuators ≡ PUNCTUATORS
+same_table : all_padded search_order ≡ PUNCTUATORS
 unfolding all_padded
 same_table = refl
 
@@ -79,4 +79,4 @@ table_is_searched bytes window found front is =
     is
     ∙ ap (λ w. option_map unpadded_length (find (λ p. fits p w) PUNCTUATORS)) front
     ∙ ap (λ t. option_map unpadded_length (find (λ p. fits p (padded 4 bytes)) t)) (sym same_table)
-    ∙ find_padded punctuators bytes refl
+    ∙ find_padded search_order bytes refl

@@ -21,7 +21,7 @@ without_cr [] = []
 without_cr (c ∷ []) = c ∷ []
 without_cr (c ∷ d ∷ cs) = if (c.byte == 13) && (d.byte == 10) then without_cr (d ∷ cs) else c ∷ without_cr (d ∷ cs)
 
--- what a trigraph stands for, by its third byte: `=` `(` `/` `)` `'` `<` `!` `>` `-` behind `??` are `#` `[` `\` `]` `^` `{` `|` `}` `~` (5.2.1.1)
+-- what a trigraph stands for, by its third byte: `=` `(` `/` `)` `'` `<` `!` `>` `-` after `??` are `#` `[` `\` `]` `^` `{` `|` `}` `~` (5.2.1.1)
 abbrev pub trigraph : ℕ → Option ℕ
 trigraph third =
     if third == 61 then Some 35

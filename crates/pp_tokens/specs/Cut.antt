@@ -1,4 +1,4 @@
--- Phase 3 of translation (C17 5.1.1.2 and 6.4): a text is cut into white space, comments and tokens, and the tokens stand on lines.
+-- Phase 3 of translation (C17 5.1.1.2 and 6.4): a text is cut into white space, comments and tokens, and the tokens are on lines.
 use Rattle.std.specs.Prelude.{◌≡◌, ℕ, zero, suc, ◌+◌, ◌==◌, Bool, true, false, ◌&&◌, ◌||◌, if◌then◌else◌, List, [], ◌∷◌, ◌++◌, length, take, drop, Option, None, Some, Result, Ok, Err}
 use Rattle.std.specs.Option.{option_map}
 use Rattle.std.specs.List.{flat_map}
@@ -43,7 +43,7 @@ abbrev pub token_or : Option ℕ → List ℕ → Option (What × ℕ)
 token_or (Some n) bytes = Some (Word Header, n)
 token_or None bytes = option_map (λ (found : Kind × ℕ). (Word found.0, found.1)) (longest bytes)
 
--- the token in front, with its kind and length: the header name where one may stand and stands there, else the longest
+-- the token in front, with its kind and length: the header name where one may be and there is one, else the longest
 abbrev pub token_at : Bool → List ℕ → Option (What × ℕ)
 token_at header bytes = token_or (if header then header_name bytes else None) bytes
 
@@ -73,18 +73,18 @@ pub record Piece : Type 0 where
   pub what : What
   pub chars : List Char
 
--- the bytes of pieces, one behind another
+-- the bytes of pieces, one after another
 abbrev pub chars_of : List Piece → List Char
 chars_of = flat_map (λ (p : Piece). p.chars)
 
--- The whole lines of tokens, and of the line that is begun: its number, its tokens, and whether white space stands behind the last.
+-- The whole lines of tokens, and of the line that is begun: its number, its tokens, and whether white space is after the last.
 pub record Page : Type 0 where
   pub lines : List Line
   pub number : ℕ
   pub tokens : List Token
   pub space : Bool
 
--- the page in front of the first piece
+-- the page before the first piece
 abbrev pub no_page : Page
 no_page = record { lines = []; number = 0; tokens = []; space = false }
 
@@ -121,20 +121,20 @@ abbrev pub put_all : Page → List Piece → Page
 put_all page [] = page
 put_all page (p ∷ ps) = put_all (put page p.what p.chars) ps
 
--- whether a header name may stand next: `#` and `include` alone stand before on the line; `%:` is `#` too (6.4 p4)
+-- whether a header name may be next: only `#` and `include` come before on the line; `%:` is `#` too (6.4 p4)
 abbrev pub header_may_stand : List Token → Bool
 header_may_stand [] = false
 header_may_stand (t ∷ []) = false
 header_may_stand (t ∷ u ∷ []) = (same t.text (codes "#") || same t.text (codes "%:")) && same u.text (codes "include")
 header_may_stand (t ∷ u ∷ v ∷ ts) = false
 
--- each piece is the one that stands in front of the rest of the text
+-- each piece is the one that is in front of the rest of the text
 abbrev pub AreCut : Bool → Page → List Piece → List Char → Type 0
 AreCut lines page [] rest = Unit {0}
 AreCut lines page (p ∷ ps) rest =
     (piece_at lines (header_may_stand page.tokens) (bytes_of (p.chars ++ chars_of ps ++ rest)) ≡ Some (p.what, length p.chars)) × AreCut lines (put page p.what p.chars) ps rest
 
--- behind this page the text is cut into these pieces, up to the rest
+-- after this page the text is cut into these pieces, up to the rest
 pub record IsCut (lines : Bool) (page : Page) (chars : List Char) (pieces : List Piece) (rest : List Char) : Type 0 where
   pub whole : chars ≡ chars_of pieces ++ rest
   pub each : AreCut lines page pieces rest
@@ -143,7 +143,7 @@ pub record IsCut (lines : Bool) (page : Page) (chars : List Char) (pieces : List
 abbrev pub Makes : Bool → Page → List Char → Page → Type 0
 Makes lines page chars final = (pieces : List Piece) × IsCut lines page chars pieces [] × (final ≡ put_all page pieces)
 
--- `/*` stands in front, and no `*/` behind it
+-- `/*` is in front, and no `*/` after it
 abbrev pub IsOpen : List ℕ → Type 0
 IsOpen bytes = (begins (codes "/*") bytes ≡ true) × (up_to_close (drop 2 bytes) ≡ None)
 

@@ -33,7 +33,7 @@ abbrev pub is_identifier : List ℕ → Bool
 is_identifier [] = false
 is_identifier (b ∷ bs) = is_letter b && list_all is_word bs
 
--- `+` or `-`, behind `e`, `E`, `p` or `P`
+-- `+` or `-`, after `e`, `E`, `p` or `P`
 abbrev pub is_exponent_sign : ℕ → ℕ → Bool
 is_exponent_sign before b = ((b == 43) || (b == 45)) && ((before == 101) || (before == 69) || (before == 112) || (before == 80))
 
@@ -41,7 +41,7 @@ is_exponent_sign before b = ((b == 43) || (b == 45)) && ((before == 101) || (bef
 abbrev pub goes_on : ℕ → ℕ → Bool
 goes_on before b = is_word b || (b == 46) || is_exponent_sign before b
 
--- bytes that go on with a number behind this byte
+-- bytes that go on with a number after this byte
 abbrev pub is_number_rest : ℕ → List ℕ → Bool
 is_number_rest before [] = true
 is_number_rest before (b ∷ bs) = goes_on before b && is_number_rest b bs
@@ -60,7 +60,7 @@ abbrev pub is_number : List ℕ → Bool
 is_number [] = false
 is_number (b ∷ bs) = begins_number b bs && is_number_rest b bs
 
--- Elements and then the closing quote, and nothing behind it. An element is a byte other than the quote, `\` and a line feed, or `\` with the next byte that is no line feed (6.4.4.4 and 6.4.5).
+-- Elements and then the closing quote, and nothing after it. An element is a byte other than the quote, `\` and a line feed, or `\` with the next byte that is no line feed (6.4.4.4 and 6.4.5).
 abbrev pub is_closed : ℕ → List ℕ → Bool
 is_closed quote [] = false
 is_closed quote (b ∷ []) = b == quote
@@ -90,22 +90,19 @@ is_char = is_prefixed is_constant ([] ∷ codes "L" ∷ codes "u" ∷ codes "U" 
 abbrev pub is_str : List ℕ → Bool
 is_str = is_prefixed (is_quoted 34) ([] ∷ codes "u8" ∷ codes "u" ∷ codes "U" ∷ codes "L" ∷ [])
 
--- the punctuators (6.4.6), in an order in which each stands before those that it begins with
+-- the punctuators, in the order of 6.4.6 p1
 abbrev pub punctuators : List (List ℕ)
 punctuators =
-    codes "(" ∷ codes ")" ∷ codes "," ∷ codes ";" ∷ codes "##" ∷ codes "#" ∷ codes "*=" ∷ codes "*"
-    ∷ codes "{" ∷ codes "}" ∷ codes "[" ∷ codes "]" ∷ codes "||" ∷ codes "|=" ∷ codes "|" ∷ codes "&&" ∷ codes "&=" ∷ codes "&"
-    ∷ codes "!=" ∷ codes "!" ∷ codes "==" ∷ codes "="
-    ∷ codes "->" ∷ codes "--" ∷ codes "-=" ∷ codes "-"
-    ∷ codes "..." ∷ codes "." ∷ codes "++" ∷ codes "+=" ∷ codes "+"
-    ∷ codes "<<=" ∷ codes "<<" ∷ codes "<=" ∷ codes "<:" ∷ codes "<%" ∷ codes "<"
-    ∷ codes ">>=" ∷ codes ">>" ∷ codes ">=" ∷ codes ">"
-    ∷ codes ":>" ∷ codes ":" ∷ codes "?"
-    ∷ codes "/=" ∷ codes "/" ∷ codes "%:%:" ∷ codes "%:" ∷ codes "%=" ∷ codes "%>" ∷ codes "%"
-    ∷ codes "^=" ∷ codes "^" ∷ codes "~"
+    codes "[" ∷ codes "]" ∷ codes "(" ∷ codes ")" ∷ codes "{" ∷ codes "}" ∷ codes "." ∷ codes "->"
+    ∷ codes "++" ∷ codes "--" ∷ codes "&" ∷ codes "*" ∷ codes "+" ∷ codes "-" ∷ codes "~" ∷ codes "!"
+    ∷ codes "/" ∷ codes "%" ∷ codes "<<" ∷ codes ">>" ∷ codes "<" ∷ codes ">" ∷ codes "<=" ∷ codes ">=" ∷ codes "==" ∷ codes "!=" ∷ codes "^" ∷ codes "|" ∷ codes "&&" ∷ codes "||"
+    ∷ codes "?" ∷ codes ":" ∷ codes ";" ∷ codes "..."
+    ∷ codes "=" ∷ codes "*=" ∷ codes "/=" ∷ codes "%=" ∷ codes "+=" ∷ codes "-=" ∷ codes "<<=" ∷ codes ">>=" ∷ codes "&=" ∷ codes "^=" ∷ codes "|="
+    ∷ codes "," ∷ codes "#" ∷ codes "##"
+    ∷ codes "<:" ∷ codes ":>" ∷ codes "<%" ∷ codes "%>" ∷ codes "%:" ∷ codes "%:%:"
     ∷ []
 
--- a punctuator of the table (6.4.6)
+-- a punctuator (6.4.6)
 abbrev pub is_punct : List ℕ → Bool
 is_punct text = list_any (same text) punctuators
 

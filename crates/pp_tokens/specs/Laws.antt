@@ -1,11 +1,11 @@
--- A text is cut in one way, the numbers of a file's lines rise, and tokens are read back from their printed text.
-use Rattle.std.specs.Prelude.{◌≡◌, ◌≢◌, ◌<◌, ℕ, Bool, false, List, [], ◌∷◌, take, None, Some, Result, Ok, Err}
+-- A file and a text have exactly one answer, the numbers of a file's lines rise, and tokens are read back from their printed text.
+use Rattle.std.specs.Prelude.{◌≡◌, ◌≢◌, ◌<◌, ◌⊎◌, ℕ, Bool, false, List, [], ◌∷◌, take, None, Some, Result, Ok, Err}
 use Rattle.pp_tokens.specs.declared.fault.LexFault.{LexFault}
 use Rattle.pp_tokens.specs.declared.fault.LexFault.TheVariants.{NulByte, OpenComment, NoMemory}
-use Rattle.pp_tokens.specs.Cleaning.{Char, on_line_one, first_nul}
+use Rattle.pp_tokens.specs.Cleaning.{Char, bytes_of, on_line_one, first_nul}
 use Rattle.pp_tokens.specs.Kinds.{kind_of}
 use Rattle.pp_tokens.specs.Printing.{SameTokens, Prints}
-use Rattle.pp_tokens.specs.Cut.{Page, Piece, IsCut, header_may_stand, LexesFile, LexesText}
+use Rattle.pp_tokens.specs.Cut.{Page, Piece, IsCut, IsOpen, header_may_stand, LexesFile, LexesText}
 use Rattle.std.specs.List.{AllByRecursion}
 use Rattle.pp_tokens.specs.declared.token.Kind.TheVariants.{LoneQuote}
 use Rattle.pp_tokens.specs.declared.line.Line.{Line}
@@ -14,6 +14,17 @@ use Rattle.pp_tokens.specs.declared.token.Token.{Token}
 -- two whole cuts of one text are the same
 abbrev pub CutIsUnique : Type 0
 CutIsUnique = (lines : Bool) (page : Page) (chars : List Char) (pieces others : List Piece) → IsCut lines page chars pieces [] → IsCut lines page chars others [] → pieces ≡ others
+
+-- a cut of a text up to its end, or up to a comment that is not closed
+pub record Ends (lines : Bool) (page : Page) (chars : List Char) : Type 0 where
+  pub pieces : List Piece
+  pub rest : List Char
+  pub cut : IsCut lines page chars pieces rest
+  pub done : (rest ≡ []) ⊎ IsOpen (bytes_of rest)
+
+-- every text is cut up to its end, or up to a comment that is not closed
+abbrev pub CutExists : Type 0
+CutExists = (lines : Bool) (page : Page) (chars : List Char) → Ends lines page chars
 
 -- an answer other than want of memory
 abbrev pub IsAnswer : {A : Type 0} → Result A LexFault → Type 0
@@ -30,17 +41,41 @@ FileHasOneAnswer = (bytes : List ℕ) (one other : Result (List Line) LexFault) 
 abbrev pub TextHasOneAnswer : Type 0
 TextHasOneAnswer = (bytes : List ℕ) (one other : Result (List Token) LexFault) → IsAnswer one → IsAnswer other → LexesText bytes one → LexesText bytes other → one ≡ other
 
+-- one answer, want of memory aside, and no other
+pub record OneAnswer {A : Type 0} (Says : Result A LexFault → Type 0) : Type 0 where
+  pub answer : Result A LexFault
+  pub plain : IsAnswer answer
+  pub said : Says answer
+  pub only : (other : Result A LexFault) → IsAnswer other → Says other → other ≡ answer
+
+-- every file has exactly one answer: its lines or its first fault
+abbrev pub EachFileIsLexed : Type 0
+EachFileIsLexed = (bytes : List ℕ) → OneAnswer (LexesFile bytes)
+
+-- every text has exactly one answer: its tokens or its first fault
+abbrev pub EachTextIsLexed : Type 0
+EachTextIsLexed = (bytes : List ℕ) → OneAnswer (LexesText bytes)
+
 -- a token that is read back: its text is a token of its kind by the table (so it is no header name), it is no lone quote, and no byte of it is 0
 pub record IsPrintable (t : Token) : Type 0 where
   pub kind : kind_of t.text ≡ Some t.kind
   pub no_lone : t.kind ≢ LoneQuote
   pub no_nul : first_nul (on_line_one t.text) ≡ None
 
+-- all lists of tokens are printed as exactly one text
+pub record OneText (tokens : List Token) : Type 0 where
+  pub text : List ℕ
+  pub printed : Prints tokens text
+  pub only : (other : List ℕ) → Prints tokens other → other ≡ text
+
+abbrev pub TokensHaveOneText : Type 0
+TokensHaveOneText = (tokens : List Token) → OneText tokens
+
 -- Such tokens, if they don't begin with `#` `include`, are what the printed text gives, in kinds and texts.
 abbrev pub PrintedIsReadBack : Type 0
-PrintedIsReadBack = (tokens : List Token) (text : List ℕ) (answer : Result (List Token) LexFault) →
-    AllByRecursion IsPrintable tokens → header_may_stand (take 2 tokens) ≡ false → Prints tokens text → IsAnswer answer → LexesText text answer →
-    (found : List Token) × (answer ≡ Ok found) × SameTokens found tokens
+PrintedIsReadBack = (tokens : List Token) (text : List ℕ) →
+    AllByRecursion IsPrintable tokens → header_may_stand (take 2 tokens) ≡ false → Prints tokens text →
+    (found : List Token) × LexesText text (Ok found) × SameTokens found tokens
 
 -- the numbers rise strictly, from above this one on
 abbrev pub RiseFrom : ℕ → List Line → Type 0

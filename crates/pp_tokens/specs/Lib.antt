@@ -1,6 +1,9 @@
 pub mod Cleaning
 pub mod Kinds
 pub mod Cut
+pub mod Lines
+pub mod Tokens
+pub mod Spelled
 pub mod Scan
 pub mod Raw
 pub mod Printing

@@ -25,7 +25,7 @@ pub record AreDots (t u : Token) : Type 0 where
   pub first : t.text ≡ codes "."
   pub second : u.text ≡ codes "."
 
--- why white space has to stand between two neighbours
+-- why white space has to be between two neighbours
 abbrev pub IsParted : Token → Token → Type 0
 IsParted t u = (u.space ≡ true) ⊎ (¬ GivesBoth t u) ⊎ AreDots t u
 

@@ -14,13 +14,13 @@ decoded (a ∷ []) = Some (a, 1)
 decoded (a ∷ b ∷ []) = Some (a, 1)
 decoded (a ∷ b ∷ c ∷ cs) = Some (spelled a (if (a == 63) && (b == 63) then trigraph c else None))
 
--- how many bytes spell the line feed in front, 0 where none stands there
+-- how many bytes spell the line feed in front, 0 where there is none
 abbrev pub feed : List ℕ → ℕ
 feed [] = 0
 feed (a ∷ []) = if a == 10 then 1 else 0
 feed (a ∷ b ∷ bs) = if a == 10 then 1 else (if (a == 13) && (b == 10) then 2 else 0)
 
--- how many bytes spell the `\` and line feed in front, 0 where they don't stand there
+-- how many bytes spell the `\` and line feed in front, 0 where there are none
 abbrev pub splice_by : Option (ℕ × ℕ) → List ℕ → ℕ
 splice_by None bytes = 0
 splice_by (Some first) bytes = if (first.0 == 92) && nat_lt 0 (feed (drop first.1 bytes)) then first.1 + feed (drop first.1 bytes) else 0
@@ -47,23 +47,23 @@ first_unit (a ∷ bs) = Some (a, 1)
 abbrev pub front_of : Bool → List ℕ → Option (ℕ × ℕ)
 front_of cleans bytes = if cleans then decoded bytes else first_unit bytes
 
--- the line of the byte behind this one
+-- the line of the byte after this one
 abbrev pub line_behind : ℕ → ℕ → ℕ
 line_behind line byte = if byte == 10 then line + 1 else line
 
--- where a cursor stands
+-- where a cursor is
 pub record IsPlace (cleans : Bool) (line : ℕ) (bytes : List ℕ) : Type 0 where
   pub settled : cleans ≡ true → IsSettled bytes
   pub one : cleans ≡ false → line ≡ 1
   pub bound : line + length bytes < 2 ^ 64
 
--- one byte spells the byte in front, it ends no line, and nothing behind it goes away
+-- one byte spells the byte in front, it ends no line, and nothing after it goes away
 abbrev pub IsPlain : List ℕ → Type 0
 IsPlain [] = ⊥
 IsPlain (a ∷ []) = ⊥
 IsPlain (a ∷ b ∷ bs) = (a ≢ 63) × (a ≢ 10) × (b ≢ 13) × (b ≢ 92) × (b ≢ 63)
 
--- so many bytes in front are plain, each before those behind it
+-- so many bytes in front are plain, each before those after it
 abbrev pub ArePlain : ℕ → List ℕ → Type 0
 ArePlain zero bytes = Unit {0}
 ArePlain (suc n) bytes = IsPlain bytes × ArePlain n (drop 1 bytes)

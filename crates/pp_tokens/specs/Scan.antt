@@ -11,7 +11,7 @@ use Rattle.pp_tokens.specs.Cleaning.{Char, bytes_of}
 use Rattle.pp_tokens.specs.declared.piece.What.{What}
 use Rattle.pp_tokens.specs.declared.piece.What.TheVariants.{Blank, LineEnd, Comment}
 use Rattle.pp_tokens.specs.Cut.{up_to, line_rest, up_to_close, token_at, piece_at, header_may_stand, line_of, Page, put, Makes, LeavesOpen}
-use Rattle.pp_tokens.specs.Kinds.{begins, is_blank, first_is, begins_number, is_letter, is_word, goes_on, is_quote, punctuators}
+use Rattle.pp_tokens.specs.Kinds.{begins, is_blank, first_is, begins_number, is_letter, is_word, goes_on, is_quote}
 
 -- how many line feeds the bytes have
 abbrev pub line_feeds : List ℕ → ℕ
@@ -23,11 +23,11 @@ abbrev pub first_byte : List Char → Option ℕ
 first_byte [] = None
 first_byte (c ∷ cs) = Some c.byte
 
--- how many letters and digits stand in front
+-- how many letters and digits are in front
 abbrev pub word_length : List ℕ → ℕ
 word_length = prefix_len is_word
 
--- how many bytes in front go on with a number behind this byte
+-- how many bytes in front go on with a number after this byte
 abbrev pub number_rest : ℕ → List ℕ → ℕ
 number_rest before [] = 0
 number_rest before (b ∷ bs) = if goes_on before b then suc (number_rest b bs) else 0
@@ -42,7 +42,7 @@ closing quote (b ∷ c ∷ bs) =
     else (if b == 92 then (if c == 10 then None else option_map (λ n. suc (suc n)) (closing quote bs))
     else option_map suc (closing quote (c ∷ bs))))
 
--- the length of the element of a quoted text in front, 0 where none stands there
+-- the length of the element of a quoted text in front, 0 where there is none
 abbrev pub element : ℕ → List ℕ → ℕ
 element quote [] = 0
 element quote (b ∷ bs) = if (b == quote) || (b == 10) then 0 else (if b == 92 then (if first_is (λ c. not (c == 10)) bs then 2 else 0) else 1)
@@ -60,7 +60,7 @@ pub record IsKnown (single double : ℕ) (bytes : List ℕ) : Type 0 where
 abbrev pub count_of : ℕ → ℕ → ℕ → ℕ
 count_of quote single double = if quote == 39 then single else (if quote == 34 then double else 0)
 
--- the length of the constant or literal whose opening quote stands before these bytes
+-- the length of the constant or literal whose opening quote is before these bytes
 abbrev pub quoted_length : ℕ → List ℕ → Option ℕ
 quoted_length quote bytes = if (quote == 39) && first_is (λ b. b == 39) bytes then None else option_map suc (closing quote bytes)
 
@@ -78,16 +78,16 @@ is_prefix quote word bytes =
     ((word == 1) && first_is is_prefix_letter bytes)
     || ((quote == 34) && (word == 2) && first_is (λ b. b == 117) bytes && first_is (λ b. b == 56) (drop 1 bytes))
 
--- a constant or literal that ends n bytes behind the word, or the word alone
+-- a constant or literal that ends n bytes after the word, or the word alone
 abbrev pub word_or : ℕ → ℕ → Option ℕ → Kind × ℕ
 word_or quote word None = (Identifier, word)
 word_or quote word (Some n) = (quoted_kind quote, word + n)
 
--- the length of what a quote opens behind the word in front, if the word is a prefix of it
+-- the length of what a quote opens after the word in front, if the word is a prefix of it
 abbrev pub prefixed_length : ℕ → ℕ → List ℕ → List ℕ → Option ℕ
 prefixed_length quote word bytes behind = if is_quote quote && is_prefix quote word bytes then quoted_length quote behind else None
 
--- the token of a word and the bytes behind it
+-- the token of a word and the bytes after it
 abbrev pub word_before : ℕ → List ℕ → List ℕ → Kind × ℕ
 word_before word bytes [] = (Identifier, word)
 word_before word bytes (b ∷ bs) = word_or b word (prefixed_length b word bytes bs)
@@ -112,7 +112,7 @@ padded zero text = []
 padded (suc n) [] = 0 ∷ padded n []
 padded (suc n) (b ∷ bs) = b ∷ padded n bs
 
--- whether the bytes of a padded text stand in front
+-- whether the bytes of a padded text are in front
 abbrev pub fits : List ℕ → List ℕ → Bool
 fits [] window = true
 fits (b ∷ bs) window = (b == 0) || (first_is (λ c. b == c) window && fits bs (drop 1 window))
@@ -122,9 +122,24 @@ abbrev pub unpadded_length : List ℕ → ℕ
 unpadded_length [] = 0
 unpadded_length (b ∷ bs) = if b == 0 then 0 else suc (unpadded_length bs)
 
--- the length of the first punctuator of the table that stands in front
+-- the punctuators in the order in which they are tried: each is before those that it begins with
+abbrev pub search_order : List (List ℕ)
+search_order =
+    codes "(" ∷ codes ")" ∷ codes "," ∷ codes ";" ∷ codes "##" ∷ codes "#" ∷ codes "*=" ∷ codes "*"
+    ∷ codes "{" ∷ codes "}" ∷ codes "[" ∷ codes "]" ∷ codes "||" ∷ codes "|=" ∷ codes "|" ∷ codes "&&" ∷ codes "&=" ∷ codes "&"
+    ∷ codes "!=" ∷ codes "!" ∷ codes "==" ∷ codes "="
+    ∷ codes "->" ∷ codes "--" ∷ codes "-=" ∷ codes "-"
+    ∷ codes "..." ∷ codes "." ∷ codes "++" ∷ codes "+=" ∷ codes "+"
+    ∷ codes "<<=" ∷ codes "<<" ∷ codes "<=" ∷ codes "<:" ∷ codes "<%" ∷ codes "<"
+    ∷ codes ">>=" ∷ codes ">>" ∷ codes ">=" ∷ codes ">"
+    ∷ codes ":>" ∷ codes ":" ∷ codes "?"
+    ∷ codes "/=" ∷ codes "/" ∷ codes "%:%:" ∷ codes "%:" ∷ codes "%=" ∷ codes "%>" ∷ codes "%"
+    ∷ codes "^=" ∷ codes "^" ∷ codes "~"
+    ∷ []
+
+-- the length of the first punctuator, in this order, that is in front
 abbrev pub punctuator_length : List ℕ → Option ℕ
-punctuator_length bytes = option_map length (find (λ p. begins p bytes) punctuators)
+punctuator_length bytes = option_map length (find (λ p. begins p bytes) search_order)
 
 -- a byte that begins no punctuator, or one of so many bytes
 abbrev pub punct_or : Option ℕ → Kind × ℕ
@@ -144,7 +159,7 @@ scanned (b ∷ bs) =
 abbrev pub header_by : ℕ → List ℕ → Option ℕ
 header_by first behind = if first == 60 then option_map suc (up_to 62 behind) else (if first == 34 then option_map suc (up_to 34 behind) else None)
 
--- the piece in front, by its first byte and the bytes behind it
+-- the piece in front, by its first byte and the bytes after it
 abbrev pub piece_by : Bool → Bool → ℕ → List ℕ → List ℕ → Option (What × ℕ)
 piece_by lines header first bytes behind =
     if first == 10 then Some (if lines then LineEnd else Blank, 1)
@@ -153,7 +168,7 @@ piece_by lines header first bytes behind =
     else (if begins (codes "/*") (first ∷ behind) then option_map (λ n. (Comment, 2 + n)) (up_to_close (drop 1 behind))
     else token_at header bytes)))
 
--- the piece in front is put on the page, and the bytes behind it are left
+-- the piece in front is put on the page, and the bytes after it are left
 pub record Takes (lines : Bool) (page : Page) (chars : List Char) (new_page : Page) (left : List Char) : Type 0 where
   pub what : What
   pub count : ℕ

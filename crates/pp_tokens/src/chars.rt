@@ -5,7 +5,7 @@ ghost use Rattle.pp_tokens.specs.Kinds.{first_is};
 ghost use Rattle.pp_tokens.specs.Raw.{left_of, line_behind};
 ghost use Rattle.pp_tokens.specs.Scan.{first_byte};
 
-use crate::raw::{behind, front, in_front, is_plain, past_return, past_splices, plain_run};
+use crate::phases12::{behind, front, in_front, is_plain, past_return, past_splices, plain_run};
 use std::marker::Model;
 
 /// The bytes of a text that are left, each with its line. Of a file they are cleaned as they are read.
@@ -14,7 +14,7 @@ pub struct Chars<'a> {
     rest: &'a [u8],
     line: u64,
     cleans: bool,
-    /// So many bytes in front are known to be plain: each spells itself, and nothing behind it goes away.
+    /// So many bytes in front are known to be plain: each spells itself, and nothing after it goes away.
     plain: usize,
 }
 
@@ -64,7 +64,7 @@ impl<'a> Chars<'a> {
         }
     }
 
-    /// What is left behind a byte on this line.
+    /// What is left after a byte on this line.
     fn behind(cleans: bool, rest: &'a [u8], line: u64, byte: u8) -> Chars<'a>
         requires bound { line + 1 + length rest.now < 2 ^ 64 }
         requires one { cleans ≡ false → line ≡ 1 }
@@ -88,7 +88,7 @@ impl<'a> Chars<'a> {
         }
     }
 
-    /// Whether this byte stands in front.
+    /// Whether this byte is in front.
     #[inline]
     pub fn is_at(&self, byte: u8) -> bool
         ensures { result ≡ first_is (λ b. b == byte) (bytes_of self.now) }
@@ -128,7 +128,7 @@ impl<'a> Chars<'a> {
         }
     }
 
-    /// Goes past the byte in front, whatever spells it and stands behind it.
+    /// Goes past the byte in front, whatever spells it and comes after it.
     #[inline(never)]
     fn advance_slowly(&mut self)
         ensures { self.new ≡ drop 1 self.old }

@@ -9,13 +9,13 @@ ghost use Rattle.pp_tokens.specs.Scan.{first_byte, closing, IsKnown, quoted_leng
 
 use crate::chars::Chars;
 use crate::classes::{is_blank, is_digit, is_letter, is_quote};
-use crate::lone::Lone;
 use crate::measures::{closing, line_rest, number_rest, up_to, up_to_close, word_length};
 use crate::piece::What;
 use crate::punctuators::punctuator_length;
+use crate::quote_scan::QuoteScan;
 use crate::token::Kind;
 
-/// The length of the constant or literal whose opening quote stands before these bytes. It may be known that none is.
+/// The length of the constant or literal whose opening quote is before these bytes. It may be known that none is.
 fn quoted_length(quote: u8, behind: &Chars<'_>, known: bool) -> Option<usize>
     requires { IsTrue known → closing quote (bytes_of behind.now) ≡ None }
     ensures value { result ≡ quoted_length quote (bytes_of behind.now) }
@@ -62,7 +62,7 @@ fn is_prefix(quote: u8, word: usize, chars: &Chars<'_>) -> bool
     }
 }
 
-/// The length of what a quote opens behind this word, if the word is a prefix of it.
+/// The length of what a quote opens after this word, if the word is a prefix of it.
 fn prefixed_length(
     quote: u8,
     word: usize,
@@ -82,8 +82,8 @@ fn prefixed_length(
 }
 
 /// An identifier, or a constant or literal with a prefix.
-fn word_token(chars: &Chars<'_>, lone: Lone) -> (Kind, usize)
-    requires { IsKnown lone.single lone.double (bytes_of chars.now) }
+fn word_token(chars: &Chars<'_>, quotes: QuoteScan) -> (Kind, usize)
+    requires { IsKnown quotes.single quotes.double (bytes_of chars.now) }
     ensures { result ≡ word_token (bytes_of chars.now) }
 {
     let word = word_length(chars);
@@ -93,7 +93,7 @@ fn word_token(chars: &Chars<'_>, lone: Lone) -> (Kind, usize)
         return (Kind::Identifier, word);
     };
     behind.advance();
-    let known = word < lone.count(quote);
+    let known = word < quotes.count(quote);
     match prefixed_length(quote, word, chars, &behind, known) {
         Some(quoted) => (quoted_kind(quote), word + quoted),
         None => (Kind::Identifier, word),
@@ -132,21 +132,21 @@ fn begins_number(first: u8, behind: &Chars<'_>) -> bool
 }
 
 /// The token in front of a text that begins with no white space.
-pub fn token(first: u8, chars: &Chars<'_>, lone: Lone) -> (Kind, usize)
-    requires known { IsKnown lone.single lone.double (bytes_of chars.now) }
+pub fn token(first: u8, chars: &Chars<'_>, quotes: QuoteScan) -> (Kind, usize)
+    requires known { IsKnown quotes.single quotes.double (bytes_of chars.now) }
     requires first { Some first ≡ first_byte chars.now }
     ensures { result ≡ scanned (bytes_of chars.now) }
 {
     let mut behind = chars.fork();
     behind.advance();
     if is_letter(first) {
-        return word_token(chars, lone);
+        return word_token(chars, quotes);
     }
     if begins_number(first, &behind) {
         return (Kind::Number, number_rest(first, &behind) + 1);
     }
     if is_quote(first) {
-        let known = lone.count(first) > 0;
+        let known = quotes.count(first) > 0;
         return quote_token(first, &behind, known);
     }
     punct_token(chars)
@@ -167,7 +167,7 @@ fn header_name(first: u8, behind: &Chars<'_>) -> Option<usize>
     }
 }
 
-/// The length of the header name in front, where one may stand.
+/// The length of the header name in front, where one may be.
 fn allowed_header(header: bool, first: u8, behind: &Chars<'_>) -> Option<usize>
     ensures { result ≡ (if header then header_by first (bytes_of behind.now) else None) }
 {
@@ -178,9 +178,14 @@ fn allowed_header(header: bool, first: u8, behind: &Chars<'_>) -> Option<usize>
     }
 }
 
-/// The token in front: the header name where one may stand and stands there, else the longest.
-fn token_piece(header: bool, first: u8, chars: &Chars<'_>, lone: Lone) -> Option<(What, usize)>
-    requires known { IsKnown lone.single lone.double (bytes_of chars.now) }
+/// The token in front: the header name where one may be and there is one, else the longest.
+fn token_piece(
+    header: bool,
+    first: u8,
+    chars: &Chars<'_>,
+    quotes: QuoteScan,
+) -> Option<(What, usize)>
+    requires known { IsKnown quotes.single quotes.double (bytes_of chars.now) }
     requires first { Some first ≡ first_byte chars.now }
     requires not_line_feed { (first == 10) ≡ false }
     requires not_blank { is_blank first ≡ false }
@@ -191,13 +196,13 @@ fn token_piece(header: bool, first: u8, chars: &Chars<'_>, lone: Lone) -> Option
     match allowed_header(header, first, &behind) {
         Some(length) => Some((What::Word(Kind::Header), length)),
         None => {
-            let (kind, length) = token(first, chars, lone);
+            let (kind, length) = token(first, chars, quotes);
             Some((What::Word(kind), length))
         }
     }
 }
 
-/// Whether `/` and this byte stand in front.
+/// Whether `/` and this byte are in front.
 fn is_comment(first: u8, behind: &Chars<'_>, second: u8) -> bool
     ensures { result ≡ begins (47 ∷ second ∷ []) (first ∷ bytes_of behind.now) }
 {
@@ -207,7 +212,7 @@ fn is_comment(first: u8, behind: &Chars<'_>, second: u8) -> bool
     }
 }
 
-/// The comment whose `/*` stands in front, where it is closed.
+/// The comment whose `/*` is in front, where it is closed.
 fn block_comment(star: &Chars<'_>) -> Option<(What, usize)>
     ensures { result ≡ option_map (λ n. (Comment, 2 + n)) (up_to_close (drop 1 (bytes_of star.now))) }
 {
@@ -220,8 +225,13 @@ fn block_comment(star: &Chars<'_>) -> Option<(What, usize)>
 }
 
 /// The piece in front and its length. None at the end, and where a comment is not closed.
-pub fn piece(lines: bool, header: bool, chars: &Chars<'_>, lone: Lone) -> Option<(What, usize)>
-    requires { IsKnown lone.single lone.double (bytes_of chars.now) }
+pub fn piece(
+    lines: bool,
+    header: bool,
+    chars: &Chars<'_>,
+    quotes: QuoteScan,
+) -> Option<(What, usize)>
+    requires { IsKnown quotes.single quotes.double (bytes_of chars.now) }
     ensures { result ≡ piece_at lines header (bytes_of chars.now) }
 {
     let Some(first) = chars.peek() else {
@@ -241,5 +251,5 @@ pub fn piece(lines: bool, header: bool, chars: &Chars<'_>, lone: Lone) -> Option
     if is_comment(first, &behind, b'*') {
         return block_comment(&behind);
     }
-    token_piece(header, first, chars, lone)
+    token_piece(header, first, chars, quotes)
 }

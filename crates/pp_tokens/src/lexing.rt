@@ -6,7 +6,7 @@ ghost use Rattle.pp_tokens.specs.Scan.{line_feeds};
 use crate::chars::Chars;
 use crate::fault::LexFault;
 use crate::line::Lines;
-use crate::page::Page;
+use crate::line_builder::LineBuilder;
 use crate::scanning::scan;
 use crate::token::Tokens;
 use memchr::memchr;
@@ -55,9 +55,9 @@ pub fn lex_file(alloc: Global, bytes: &[u8]) -> Result<Lines, LexFault>
         return Err(LexFault::NulByte { line });
     }
     let mut chars = Chars::of_file(bytes);
-    let mut page = Page::new(alloc);
-    match scan(alloc, true, &mut chars, &mut page) {
-        Ok(()) => match page.into_lines(alloc) {
+    let mut builder = LineBuilder::new(alloc);
+    match scan(alloc, true, &mut chars, &mut builder) {
+        Ok(()) => match builder.into_lines(alloc) {
             Ok(lines) => Ok(lines),
             Err(_) => Err(LexFault::NoMemory),
         },
@@ -74,9 +74,9 @@ pub fn lex_text(alloc: Global, bytes: &[u8]) -> Result<Tokens, LexFault>
         return Err(LexFault::NulByte { line });
     }
     let mut chars = Chars::of_text(bytes);
-    let mut page = Page::new(alloc);
-    match scan(alloc, false, &mut chars, &mut page) {
-        Ok(()) => Ok(page.into_tokens()),
+    let mut builder = LineBuilder::new(alloc);
+    match scan(alloc, false, &mut chars, &mut builder) {
+        Ok(()) => Ok(builder.into_tokens()),
         Err(fault) => Err(fault),
     }
 }

@@ -9,20 +9,24 @@ mod front;
 mod laws;
 mod lexing;
 mod line;
-mod lone;
+mod line_builder;
 mod measures;
-mod page;
+mod phases12;
 mod piece;
 mod printing;
 mod punctuators;
-mod raw;
+mod quote_scan;
 mod scanning;
 #[cfg(test)]
 mod tests;
 mod token;
 
+pub use classes::is_identifier;
 pub use fault::LexFault;
-pub use laws::{cut_is_unique, line_numbers_rise, printed_is_read_back};
+pub use laws::{
+    cut_is_unique, each_is_lexed, kinds_are_spelled, line_numbers_rise, lines_are_split_at_ends,
+    printed_is_read_back,
+};
 pub use lexing::{lex_file, lex_text};
 pub use line::{Line, Lines};
 pub use printing::print_tokens;

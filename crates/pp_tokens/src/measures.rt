@@ -21,7 +21,7 @@ fn words_in(bytes: &[u8]) -> usize
     length
 }
 
-/// How many letters and digits stand in front.
+/// How many letters and digits are in front.
 pub fn word_length(chars: &Chars<'_>) -> usize
     ensures value { result ≡ word_length (bytes_of chars.now) }
     ensures bound { result ≤ length chars.now }
@@ -40,7 +40,7 @@ pub fn word_length(chars: &Chars<'_>) -> usize
     length
 }
 
-/// How many bytes in front go on with a number behind a byte.
+/// How many bytes in front go on with a number after a byte.
 pub fn number_rest(first: u8, chars: &Chars<'_>) -> usize
     ensures value { result ≡ number_rest first (bytes_of chars.now) }
     ensures bound { result ≤ length chars.now }
@@ -60,7 +60,7 @@ pub fn number_rest(first: u8, chars: &Chars<'_>) -> usize
     length
 }
 
-/// How many bytes stand before the next line feed.
+/// How many bytes are before the next line feed.
 pub fn line_rest(chars: &Chars<'_>) -> usize
     ensures value { result ≡ line_rest (bytes_of chars.now) }
     ensures bound { result ≤ length chars.now }
@@ -80,7 +80,7 @@ pub fn line_rest(chars: &Chars<'_>) -> usize
     length
 }
 
-/// The length of the element of a quoted text in front, 0 where none stands there.
+/// The length of the element of a quoted text in front, 0 where there is none.
 fn element(quote: u8, chars: &Chars<'_>) -> usize
     ensures { result ≡ element quote (bytes_of chars.now) }
 {
@@ -145,7 +145,7 @@ pub fn up_to(last: u8, chars: &Chars<'_>) -> Option<usize>
     None
 }
 
-/// Whether the byte and the one behind it are `*/`.
+/// Whether the byte and the one after it are `*/`.
 fn ends_comment(byte: u8, behind: &Chars<'_>) -> bool
     ensures { result ≡ (byte == 42) && first_is (λ b. b == 47) (bytes_of behind.now) }
 {

@@ -14,7 +14,7 @@ fn is_same(found: &Token, wanted: &Token) -> bool
     found.kind == wanted.kind && found.text.as_slice() == wanted.text.as_slice()
 }
 
-/// The two texts, one behind the other.
+/// The two texts, one after the other.
 fn joined(alloc: Global, first: &Token, second: &Token) -> Result<Vec<u8>, NoMemory>
     ensures { IfOk result (λ text. text.items ≡ first.now.text ++ second.now.text) }
 {
@@ -53,7 +53,7 @@ fn are_dots(first: &Token, second: &Token) -> bool
     first.text.as_slice() == b".".as_slice() && second.text.as_slice() == b".".as_slice()
 }
 
-/// Whether white space has to stand between two neighbours.
+/// Whether white space has to be between two neighbours.
 fn is_parted(alloc: Global, first: &Token, second: &Token) -> Result<bool, NoMemory>
     ensures { IfOk result (λ parted. IsTrue parted ↔ IsParted first.now second.now) }
 {
@@ -75,7 +75,7 @@ fn put_gap(alloc: Global, text: &mut Vec<u8>, first: &Token, second: &Token) -> 
     Ok(())
 }
 
-/// The texts of the tokens in order. One space stands before a token that is not the first where its mark is set, where
+/// The texts of the tokens in order. One space is before a token that is not the first where its mark is set, where
 /// the neighbouring texts alone would not be read as these two tokens, and between two `.`.
 pub fn print_tokens(alloc: Global, tokens: &Tokens) -> Result<Bytes, NoMemory>
     ensures { IfOk result (λ text. Prints tokens.now text) }

@@ -6,7 +6,7 @@ ghost use Rattle.pp_tokens.specs.Scan.{byte_or_zero, padded, fits, unpadded_leng
 
 use crate::chars::Chars;
 
-/// The punctuators (C17 6.4.6), filled up with zeros. Each stands before those that it begins with, frequent ones in front.
+/// The punctuators (C17 6.4.6), filled up with zeros. Each is before those that it begins with, frequent ones in front.
 const PUNCTUATORS: [[u8; 4]; 54] = [
     *b"(\0\0\0",
     *b")\0\0\0",
@@ -64,7 +64,7 @@ const PUNCTUATORS: [[u8; 4]; 54] = [
     *b"~\0\0\0",
 ];
 
-/// Whether the bytes of a punctuator stand in front of these four.
+/// Whether the bytes of a punctuator are in front of these four.
 fn stands(punctuator: &[u8; 4], window: &[u8; 4]) -> bool
     ensures { result ≡ fits punctuator.now window.now }
 {
@@ -91,7 +91,7 @@ fn size(punctuator: &[u8; 4]) -> usize
     4
 }
 
-/// The length of the first text of a table that stands in front of these four bytes.
+/// The length of the first text of a table that is in front of these four bytes.
 fn first_of(table: &[[u8; 4]], window: &[u8; 4]) -> Option<usize>
     ensures { result ≡ option_map unpadded_length (find (λ p. fits p window.now) table.now) }
 {

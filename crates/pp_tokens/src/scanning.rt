@@ -6,9 +6,9 @@ ghost use Rattle.pp_tokens.specs.Scan.{IsKnown, Steps, Scans};
 use crate::chars::Chars;
 use crate::fault::LexFault;
 use crate::front::piece;
-use crate::lone::Lone;
-use crate::page::Page;
+use crate::line_builder::LineBuilder;
 use crate::piece::What;
+use crate::quote_scan::QuoteScan;
 use crate::token::Kind;
 use mac_base::{Bytes, NoMemory};
 use std::alloc::Global;
@@ -48,26 +48,26 @@ fn put_piece(
     what: What,
     count: usize,
     chars: &mut Chars<'_>,
-    page: &mut Page,
+    builder: &mut LineBuilder,
 ) -> Result<(), NoMemory>
     requires some { 1 ≤ count }
     requires left { chars.old ≢ [] }
-    ensures page { OnOk result (page.new ≡ put page.old what (take count chars.old)) }
+    ensures builder { OnOk result (builder.new ≡ put builder.old what (take count chars.old)) }
     ensures left { OnOk result (chars.new ≡ drop count chars.old) }
 {
     match what {
         What::Blank | What::Comment => {
-            page.blank();
+            builder.blank();
             chars.skip(count);
         }
         What::LineEnd => {
-            page.end_line(alloc)?;
+            builder.end_line(alloc)?;
             chars.skip(count);
         }
         What::Word(kind) => {
             let line = chars.line();
             let text = take_text(alloc, count, chars)?;
-            page.word(kind, text, line)?;
+            builder.word(kind, text, line)?;
         }
     }
     chars.look_ahead();
@@ -79,35 +79,35 @@ fn step(
     alloc: Global,
     lines: bool,
     chars: &mut Chars<'_>,
-    page: &mut Page,
-    lone: &mut Lone,
+    builder: &mut LineBuilder,
+    quotes: &mut QuoteScan,
 ) -> Result<(), LexFault>
     requires left { chars.old ≢ [] }
-    requires known { IsKnown lone.old.single lone.old.double (bytes_of chars.old) }
-    ensures step { Steps lines page.old chars.old page.new chars.new result }
-    ensures known { OnOk result (IsKnown lone.new.single lone.new.double (bytes_of chars.new)) }
+    requires known { IsKnown quotes.old.single quotes.old.double (bytes_of chars.old) }
+    ensures step { Steps lines builder.old chars.old builder.new chars.new result }
+    ensures known { OnOk result (IsKnown quotes.new.single quotes.new.double (bytes_of chars.new)) }
 {
     let first = chars.peek();
-    let Some((what, count)) = piece(lines, page.header_may_stand(), chars, *lone) else {
+    let Some((what, count)) = piece(lines, builder.header_may_stand(), chars, *quotes) else {
         return Err(LexFault::OpenComment { line: chars.line() });
     };
-    match put_piece(alloc, what, count, chars, page) {
+    match put_piece(alloc, what, count, chars, builder) {
         Ok(()) => {
-            *lone = known_behind(lone.behind(count), first, what, chars);
+            *quotes = known_after(quotes.after(count), first, what, chars);
             Ok(())
         }
         Err(_) => Err(LexFault::NoMemory),
     }
 }
 
-/// What is known of the quotes behind a piece that began with this byte.
-fn known_behind(lone: Lone, first: Option<u8>, what: What, chars: &Chars<'_>) -> Lone
-    requires { IsKnown lone.single lone.double (bytes_of chars.now) }
+/// What is known of the quotes after a piece that began with this byte.
+fn known_after(quotes: QuoteScan, first: Option<u8>, what: What, chars: &Chars<'_>) -> QuoteScan
+    requires { IsKnown quotes.single quotes.double (bytes_of chars.now) }
     ensures { IsKnown result.single result.double (bytes_of chars.now) }
 {
     match (what, first) {
-        (What::Word(Kind::LoneQuote), Some(quote)) => lone.learned(quote, chars),
-        _ => lone,
+        (What::Word(Kind::LoneQuote), Some(quote)) => quotes.learned(quote, chars),
+        _ => quotes,
     }
 }
 
@@ -116,13 +116,13 @@ pub fn scan(
     alloc: Global,
     lines: bool,
     chars: &mut Chars<'_>,
-    page: &mut Page,
+    builder: &mut LineBuilder,
 ) -> Result<(), LexFault>
-    ensures { Scans lines page.old chars.old page.new result }
+    ensures { Scans lines builder.old chars.old builder.new result }
 {
-    let mut lone = Lone::unknown();
+    let mut quotes = QuoteScan::unknown();
     'pieces: while chars.peek().is_some() {
-        step(alloc, lines, chars, page, &mut lone)?;
+        step(alloc, lines, chars, builder, &mut quotes)?;
     }
     Ok(())
 }

@@ -1,3 +1,4 @@
+use crate::classes::is_identifier;
 use crate::fault::LexFault;
 use crate::lexing::{lex_file, lex_text};
 use crate::line::{Line, Lines};
@@ -21,7 +22,7 @@ fn letter(kind: Kind) -> u8 {
     }
 }
 
-/// Each token as a blank or, where white space stands before it, `~`, the letter of its kind and its text.
+/// Each token as a blank or, where white space is before it, `~`, the letter of its kind and its text.
 fn put_tokens(shown: &mut Vec<u8>, tokens: &Tokens) -> Result<(), NoMemory> {
     for token in tokens.as_slice() {
         shown.push(if token.space { b'~' } else { b' ' })?;
@@ -167,5 +168,25 @@ fn copies_are_alike(rt: HostRuntime) -> Result<(), Fail> {
     assert_eq!(rt; pushed.len(), 2);
     let shown = shown_lines(rt.alloc(), &pushed)?;
     assert_eq!(rt; shown.as_slice(), b"1 Ia~N1;2 C'c'~P+~Ib;".as_slice());
+    Ok(())
+}
+
+#[test]
+fn kinds_and_spellings_are_told(rt: HostRuntime) -> Result<(), Fail> {
+    let tokens = lex_text(rt.alloc(), b"# ## %: %:%: a '")?;
+    let mut hashes = 0;
+    let mut pastes = 0;
+    for token in tokens.as_slice() {
+        if token.is_hash() && token.is_punctuator() {
+            hashes += 1;
+        }
+        if token.is_paste() && token.is_punctuator() {
+            pastes += 1;
+        }
+        assert_eq!(rt; token.is_identifier(), is_identifier(token.text.as_slice()));
+        assert_eq!(rt; token.is_lone_quote(), token.is_spelled(b"'"));
+    }
+    assert_eq!(rt; hashes, 2);
+    assert_eq!(rt; pastes, 2);
     Ok(())
 }

@@ -1,5 +1,6 @@
 ghost use Rattle.std.specs.Prelude.{◌≡◌, List, [], ◌∷◌, ◌++◌, length, IfOk, OnOk, OnErr};
 ghost use Rattle.pp_tokens.specs.declared.token.Token.{Token};
+ghost use Rattle.pp_tokens.specs.Tokens.{is_identifier, is_punctuator, is_lone_quote, is_spelled, is_hash, is_paste};
 
 use mac_base::{Bytes, NoMemory};
 use std::alloc::Global;
@@ -32,7 +33,7 @@ pub struct Token {
     pub kind: Kind,
     /// The bytes of it after phases 1 and 2.
     pub text: Bytes,
-    /// Whether white space stands before it on its line. The first of a line has false.
+    /// Whether white space is before it on its line. The first of a line has false.
     pub space: bool,
 }
 
@@ -46,6 +47,50 @@ impl Token {
             text: self.text.copy()?,
             space: self.space,
         })
+    }
+}
+
+impl Token {
+    /// An identifier (C17 6.4.2).
+    pub fn is_identifier(&self) -> bool
+        ensures { result ≡ is_identifier self.now }
+    {
+        matches!(self.kind, Kind::Identifier)
+    }
+
+    /// A punctuator (C17 6.4.6).
+    pub fn is_punctuator(&self) -> bool
+        ensures { result ≡ is_punctuator self.now }
+    {
+        matches!(self.kind, Kind::Punct)
+    }
+
+    /// A quote that nothing closes.
+    pub fn is_lone_quote(&self) -> bool
+        ensures { result ≡ is_lone_quote self.now }
+    {
+        matches!(self.kind, Kind::LoneQuote)
+    }
+
+    /// Whether the token has this spelling.
+    pub fn is_spelled(&self, spelling: &[u8]) -> bool
+        ensures { result ≡ is_spelled spelling.now self.now }
+    {
+        self.text.as_slice() == spelling
+    }
+
+    /// `#`, or `%:` (C17 6.4.6 p3).
+    pub fn is_hash(&self) -> bool
+        ensures { result ≡ is_hash self.now }
+    {
+        self.is_spelled(b"#") || self.is_spelled(b"%:")
+    }
+
+    /// `##`, or `%:%:` (C17 6.4.6 p3).
+    pub fn is_paste(&self) -> bool
+        ensures { result ≡ is_paste self.now }
+    {
+        self.is_spelled(b"##") || self.is_spelled(b"%:%:")
     }
 }
 

@@ -16,5 +16,5 @@ returns-then-is_quote c =
 
 pub quote_token-requires : goal.quote_token-requires
 quote_token-requires c =
-    known-at c.args.first 0 c.count-known.result c.args.lone.single c.args.lone.double c.args.chars.now c.advance.new.self c.requires.known c.requires.first c.count-known.ensures
+    known-at c.args.first 0 c.count-known.result c.args.quotes.single c.args.quotes.double c.args.chars.now c.advance.new.self c.requires.known c.requires.first c.count-known.ensures
     (c.advance.ensures ∙ ap (drop 1) c.fork-behind.ensures.same)

@@ -24,5 +24,5 @@ returns-in-None c =
 pub prefixed_length-requires : goal.prefixed_length-requires
 prefixed_length-requires c =
     let place : c.skip.new.self ≡ drop c.word_length-word.result c.args.chars.now = c.skip.ensures ∙ ap (drop c.word_length-word.result) c.fork-behind.ensures.same in
-    known-at c.in-Some.quote c.word_length-word.result c.count.result c.args.lone.single c.args.lone.double c.args.chars.now c.advance.new.self c.requires
+    known-at c.in-Some.quote c.word_length-word.result c.count.result c.args.quotes.single c.args.quotes.double c.args.chars.now c.advance.new.self c.requires
     (sym c.in-Some.is ∙ c.peek.ensures ∙ ap first_byte place) c.count.ensures (c.advance.ensures ∙ ap (drop 1) place)

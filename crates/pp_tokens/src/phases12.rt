@@ -2,7 +2,7 @@ ghost use Rattle.std.specs.Prelude.{◌≡◌, ◌≤◌, ◌<◌, ◌+◌, ◌^
 ghost use Rattle.pp_tokens.specs.Cleaning.{trigraph, cleaned_from};
 ghost use Rattle.pp_tokens.specs.Raw.{decoded, feed, splice, IsSettled, IsPlain, ArePlain, front_of};
 
-/// The bytes behind the first ones.
+/// The bytes after the first ones.
 pub fn behind(bytes: &[u8], count: usize) -> &[u8]
     requires { count ≤ length bytes.now }
     ensures { result.now ≡ drop count bytes.now }
@@ -51,7 +51,7 @@ fn decoded(bytes: &[u8]) -> Option<(u8, usize)>
     }
 }
 
-/// How many bytes spell the line feed in front, 0 where none stands there.
+/// How many bytes spell the line feed in front, 0 where there is none.
 fn feed(bytes: &[u8]) -> usize
     ensures value { result ≡ feed bytes.now }
     ensures bound { result ≤ length bytes.now }
@@ -63,7 +63,7 @@ fn feed(bytes: &[u8]) -> usize
     }
 }
 
-/// How many bytes spell the `\` and line feed in front, 0 where they don't stand there.
+/// How many bytes spell the `\` and line feed in front, 0 where there are none.
 fn splice(bytes: &[u8]) -> usize
     ensures value { result ≡ splice bytes.now }
     ensures bound { result ≤ length bytes.now }
@@ -77,7 +77,7 @@ fn splice(bytes: &[u8]) -> usize
     }
 }
 
-/// The bytes behind all splices in front, and their line.
+/// The bytes after all splices in front, and their line.
 pub fn past_splices(bytes: &[u8], first: u64) -> (&[u8], u64)
     requires { first + length bytes.now < 2 ^ 64 }
     ensures same { cleaned_from result.1 result.0.now ≡ cleaned_from first bytes.now }
@@ -96,7 +96,7 @@ pub fn past_splices(bytes: &[u8], first: u64) -> (&[u8], u64)
     }
 }
 
-/// The bytes without a carriage return in front that stands before a line feed.
+/// The bytes without a carriage return in front that is before a line feed.
 pub fn past_return(bytes: &[u8]) -> &[u8]
     requires { splice bytes.now ≡ 0 }
     ensures same { (line : ℕ) → cleaned_from line result.now ≡ cleaned_from line bytes.now }
@@ -121,7 +121,7 @@ pub fn front(cleans: bool, bytes: &[u8]) -> Option<(u8, usize)>
     Some((*byte, 1))
 }
 
-/// Whether one byte in front is to be passed over, and nothing behind it goes away.
+/// Whether one byte in front is to be passed over, and nothing after it goes away.
 #[inline]
 pub fn is_plain(bytes: &[u8]) -> bool
     ensures { IsTrue result → IsPlain bytes.now }
@@ -136,7 +136,7 @@ pub fn is_plain(bytes: &[u8]) -> bool
     }
 }
 
-/// How many bytes in front are plain, one behind the other.
+/// How many bytes in front are plain, one after the other.
 pub fn plain_run(bytes: &[u8]) -> usize
     ensures { ArePlain result bytes.now }
 {

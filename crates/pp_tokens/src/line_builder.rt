@@ -1,8 +1,6 @@
-ghost use Rattle.std.specs.Prelude.{◌≡◌, ◌||◌, List, [], ◌∷◌, IfOk, OnOk};
+ghost use Rattle.std.specs.Prelude.{◌≡◌, List, [], ◌∷◌, IfOk, OnOk};
 ghost use Rattle.pp_tokens.specs.Cleaning.{Char, bytes_of};
 ghost use Rattle.pp_tokens.specs.Cut.{no_page, lines_of, header_may_stand, line_of, put};
-ghost use lib.Chars.{codes};
-ghost use Rattle.pp_tokens.specs.Kinds.{same};
 ghost use Rattle.pp_tokens.specs.declared.piece.What.TheVariants.{Blank, LineEnd, Word};
 
 use crate::line::{Line, Lines};
@@ -14,14 +12,14 @@ use std::mem;
 
 /// The whole lines of tokens, and the line that is begun.
 #[derive(Drop)]
-pub struct Page {
+pub struct LineBuilder {
     lines: Lines,
     number: u64,
     tokens: Tokens,
     space: bool,
 }
 
-impl Model for Page {
+impl Model for LineBuilder {
     ghost use Rattle.pp_tokens.specs.Cut.{Page};
 
     ghost Value = { Page };
@@ -29,12 +27,12 @@ impl Model for Page {
     ghost view = { λ p. record { lines = p.lines; number = p.number; tokens = p.tokens; space = p.space } };
 }
 
-impl Page {
-    /// The page in front of the first piece.
-    pub fn new(alloc: Global) -> Page
+impl LineBuilder {
+    /// The builder before the first piece.
+    pub fn new(alloc: Global) -> LineBuilder
         ensures { result ≡ no_page }
     {
-        Page {
+        LineBuilder {
             lines: Lines::new(alloc),
             number: 0,
             tokens: Tokens::new(alloc),
@@ -52,7 +50,7 @@ impl Page {
         }
     }
 
-    /// White space stands behind the last token.
+    /// White space comes next.
     pub fn blank(&mut self)
         ensures { self.new ≡ put self.old Blank [] }
     {
@@ -75,7 +73,7 @@ impl Page {
         Ok(())
     }
 
-    /// A token stands here, on that line.
+    /// A token comes next, on that line.
     pub fn word(&mut self, kind: Kind, text: Bytes, line: u64) -> Result<(), NoMemory>
         ensures { OnOk result ((chars : List Char) → line ≡ line_of chars → text ≡ bytes_of chars → self.new ≡ put self.old (Word kind) chars) }
     {
@@ -92,14 +90,14 @@ impl Page {
     pub fn into_lines(self, alloc: Global) -> Result<Lines, NoMemory>
         ensures { IfOk result (λ lines. lines ≡ lines_of self) }
     {
-        let mut page = self;
-        page.end_line(alloc)?;
-        let Page {
+        let mut builder = self;
+        builder.end_line(alloc)?;
+        let LineBuilder {
             lines,
             number: _,
             tokens: _,
             space: _,
-        } = page;
+        } = builder;
         Ok(lines)
     }
 
@@ -107,7 +105,7 @@ impl Page {
     pub fn into_tokens(self) -> Tokens
         ensures { result ≡ self.tokens }
     {
-        let Page {
+        let LineBuilder {
             lines: _,
             number: _,
             tokens,
@@ -117,23 +115,9 @@ impl Page {
     }
 }
 
-/// Whether the two texts are equal.
-fn is_text(text: &[u8], wanted: &[u8]) -> bool
-    ensures { result ≡ same text.now wanted.now }
-{
-    text == wanted
-}
-
-/// `#`, or `%:`.
-fn is_hash(text: &[u8]) -> bool
-    ensures { result ≡ same text.now (codes "#") || same text.now (codes "%:") }
-{
-    is_text(text, b"#") || is_text(text, b"%:")
-}
-
 /// Whether the two are `#` and `include`.
 fn begins_include(hash: &Token, include: &Token) -> bool
     ensures { result ≡ header_may_stand (hash.now ∷ include.now ∷ []) }
 {
-    is_hash(hash.text.as_slice()) && is_text(include.text.as_slice(), b"include")
+    hash.is_hash() && include.is_spelled(b"include")
 }

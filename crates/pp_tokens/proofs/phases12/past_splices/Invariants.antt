@@ -1,6 +1,6 @@
 use Rattle.std.proofs.Common.{◌≡◌, ◌+◌, ◌≤◌, length}
 use Rattle.pp_tokens.specs.Cleaning.{cleaned_from}
-use Rattle.pp_tokens.proofs.raw.past_splices.Given as goal
+use Rattle.pp_tokens.proofs.phases12.past_splices.Given as goal
 
 abbrev pub invariant-loop-rest : goal.invariant-loop-rest
 invariant-loop-rest l = record { same : cleaned_from l.line l.rest ≡ cleaned_from l.first l.bytes; bound : l.line + length l.rest ≤ l.first + length l.bytes }

@@ -2,7 +2,7 @@ use Rattle.std.proofs.Common.{arith, ◌∙◌, ap, subst, suc, drop, length}
 use Rattle.std.proofs.lemmas.List.{drop-drop}
 use Rattle.pp_tokens.specs.Raw.{IsPlain, ArePlain}
 use Rattle.pp_tokens.proofs.PlainLemmas.{plain_more, plain_shorter}
-use Rattle.pp_tokens.proofs.raw.plain_run.Goals as goal
+use Rattle.pp_tokens.proofs.phases12.plain_run.Goals as goal
 
 pub loop-rest-preserved : goal.loop-rest-preserved
 loop-rest-preserved c =

@@ -1,7 +1,7 @@
 use Rattle.std.proofs.Common.{◌≡◌, ◌<◌, ◌≤◌, List, [], ◌∷◌, length, get_or, Bool, ◌∙◌, ap, arith}
 use Rattle.pp_tokens.specs.declared.token.Token.{Token}
 use Rattle.pp_tokens.specs.Cut.{header_may_stand, Page}
-use Rattle.pp_tokens.proofs.page.Page.header_may_stand.Goals as goal
+use Rattle.pp_tokens.proofs.line_builder.LineBuilder.header_may_stand.Goals as goal
 
 of_two : (ts : List Token) (t u : Token) (r : Bool) → 2 ≤ length ts → length ts < 3 → t ≡ get_or ts 0 t → u ≡ get_or ts 1 u → r ≡ header_may_stand (t ∷ u ∷ []) → r ≡ header_may_stand ts
 of_two [] t u r at_least below first second is = absurd (omega arith)

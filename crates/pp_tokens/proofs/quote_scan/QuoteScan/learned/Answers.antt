@@ -2,7 +2,7 @@ use Rattle.std.proofs.Common.{◌≡◌, None, sym, ◌∙◌, ap, subst}
 use Rattle.pp_tokens.specs.Cleaning.{bytes_of}
 use Rattle.pp_tokens.specs.Scan.{closing, IsKnown}
 use Rattle.pp_tokens.proofs.LoneLemmas.{known-learned, not_some}
-use Rattle.pp_tokens.proofs.lone.Lone.learned.Goals as goal
+use Rattle.pp_tokens.proofs.quote_scan.QuoteScan.learned.Goals as goal
 
 pub returns-in-39 : goal.returns-in-39
 returns-in-39 c =

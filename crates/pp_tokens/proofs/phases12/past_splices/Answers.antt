@@ -1,7 +1,7 @@
 use Rattle.std.proofs.Common.{◌+◌, length, length-drop, sym, ◌∙◌, ap, arith}
 use Rattle.pp_tokens.specs.Cleaning.{cleaned_from}
 use Rattle.pp_tokens.proofs.CleanLemmas.{splice-some}
-use Rattle.pp_tokens.proofs.raw.past_splices.Goals as goal
+use Rattle.pp_tokens.proofs.phases12.past_splices.Goals as goal
 
 pub loop-rest-preserved : goal.loop-rest-preserved
 loop-rest-preserved c = record {

@@ -8,19 +8,19 @@ use crate::measures::{closing, line_rest};
 /// How many of the next bytes hold no quote of each sort that is closed on its line. Without it a line of many escaped
 /// quotes would be searched anew at each of them.
 #[derive(Clone, Copy, Debug)]
-pub struct Lone {
+pub struct QuoteScan {
     /// For `'`.
     pub single: usize,
     /// For `"`.
     pub double: usize,
 }
 
-impl Lone {
+impl QuoteScan {
     /// Nothing is known yet.
-    pub fn unknown() -> Lone
+    pub fn unknown() -> QuoteScan
         ensures { result ≡ record { single = 0; double = 0 } }
     {
-        Lone {
+        QuoteScan {
             single: 0,
             double: 0,
         }
@@ -37,18 +37,18 @@ impl Lone {
         }
     }
 
-    /// What is known behind so many bytes.
-    pub fn behind(&self, count: usize) -> Lone
+    /// What is known after so many bytes.
+    pub fn after(&self, count: usize) -> QuoteScan
         ensures { result ≡ record { single = self.now.single - count; double = self.now.double - count } }
     {
-        Lone {
+        QuoteScan {
             single: self.single.saturating_sub(count),
             double: self.double.saturating_sub(count),
         }
     }
 
-    /// What is known behind a quote that stands alone.
-    pub fn learned(self, quote: u8, chars: &Chars<'_>) -> Lone
+    /// What is known after a quote that is alone.
+    pub fn learned(self, quote: u8, chars: &Chars<'_>) -> QuoteScan
         requires { IsKnown self.single self.double (bytes_of chars.now) }
         ensures { IsKnown result.single result.double (bytes_of chars.now) }
     {
@@ -57,11 +57,11 @@ impl Lone {
         }
         let count = line_rest(chars);
         match quote {
-            b'\'' => Lone {
+            b'\'' => QuoteScan {
                 single: count,
                 double: self.double,
             },
-            b'"' => Lone {
+            b'"' => QuoteScan {
                 single: self.single,
                 double: count,
             },
