@@ -1,5 +1,6 @@
 pub mod TableLemmas
 pub mod FileTableLemmas
+pub mod InsideLemmas
 pub mod RenamedLemmas
 pub mod Examples
 pub mod DefinitionExamples

@@ -1,5 +1,5 @@
 -- Want of memory is no fault of tokens or of a text.
-use Rattle.std.proofs.Common.{ℕ, zero, suc, Bool, true, false, cond, not, ◌&&◌, ◌||◌, List, [], ◌∷◌, ◌++◌, length, take, drop, Option, Some, None, Result, Ok, Err, subst}
+use Rattle.std.proofs.Common.{ℕ, zero, suc, Bool, true, false, cond, not, ◌&&◌, ◌||◌, List, [], ◌∷◌, ◌++◌, length, take, drop, Option, Some, None, Result, Ok, Err, ◌≡◌, ◌∙◌, sym, subst}
 use Rattle.std.specs.List.{list_any}
 use lib.Chars.{codes}
 use Rattle.mac_base.specs.Input.{◌>>=◌}
@@ -10,8 +10,9 @@ use Rattle.pp_tokens.specs.declared.fault.LexFault.TheVariants.{NulByte, OpenCom
 use Rattle.pp_tokens.specs.declared.fault.LexFault.TheVariants.{NoMemory as LexRanOut}
 use Rattle.pp_tokens.specs.Cleaning.{Char, bytes_of, on_line_one, first_nul}
 use Rattle.pp_tokens.specs.Kinds.{same}
-use Rattle.pp_tokens.specs.Cut.{Page, no_page, put, piece_at, header_may_stand}
+use Rattle.pp_tokens.specs.Cut.{Page, no_page, put, piece_at, header_may_stand, LexesText}
 use Rattle.pp_tokens.specs.Laws.{IsAnswer}
+use Rattle.pp_tokens.proofs.ExistLemmas.{text-lexed}
 use Rattle.macro_table.specs.declared.fault.DefFault.{DefFault}
 use Rattle.macro_table.specs.declared.fault.DefFault.TheVariants.{NoName, Reserved, ParamSyntax, RepeatedParam, VaArgs, LoneQuote, EdgePaste, LoneHash, NoMemory}
 use Rattle.macro_table.specs.declared.fault.TextFault.{TextFault}
@@ -165,6 +166,16 @@ faults_are_plain = record {
 }
 
 -- what phase 3 gives
+
+given : (text : List ℕ) (answer : Result (List Token) LexFault) → IsAnswer answer → LexesText text answer → tokens_of text ≡ answer
+given text (Ok tokens) answer lexes = tokens_given text tokens lexes
+given text (Err fault) answer lexes = fault_given text fault answer lexes
+
 pub tokens_are_lexed : TokensAreLexed
-tokens_are_lexed text (Ok tokens) answer lexes = tokens_given text tokens lexes
-tokens_are_lexed text (Err fault) answer lexes = fault_given text fault answer lexes
+tokens_are_lexed = record {
+  plain = λ text. unless_answer (first_nul (on_line_one text)) text;
+  exactly = λ text answer plain. (
+    (λ is. let one = text-lexed text in subst (LexesText text) (sym (given text one.answer one.plain one.said) ∙ is) one.said),
+    given text answer plain,
+  );
+}

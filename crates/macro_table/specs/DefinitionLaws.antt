@@ -1,5 +1,5 @@
 -- What holds of all definitions and their texts: a definition is read back from its text, and want of memory is no fault of it.
-use Rattle.std.specs.Prelude.{◌≡◌, ◌≢◌, ℕ, true, List, [], ◌∷◌, ◌++◌, Result, Ok, Err}
+use Rattle.std.specs.Prelude.{◌≡◌, ◌≢◌, ◌↔◌, ℕ, true, List, [], ◌∷◌, ◌++◌, Result, Ok, Err}
 use Rattle.std.specs.List.{AllByRecursion}
 use Rattle.pp_tokens.specs.declared.line.Line.{Line}
 use Rattle.pp_tokens.specs.declared.token.Kind.TheVariants.{Header}
@@ -23,18 +23,19 @@ pub data IsGiven (tokens : List Token) : Type 0 where
 abbrev pub IsNoHeader : Token → Type 0
 IsNoHeader t = t.kind ≢ Header
 
--- a replacement list behind white space
+-- a replacement list after white space
 abbrev pub first_spaced : List Token → List Token
 first_spaced [] = []
 first_spaced (t ∷ ts) = record t { space = true } ∷ ts
 
--- What tokens define that phase 3 gave, without a header name among them, is what its text defines, but that white space stands before the replacement list of the text.
+-- What tokens define that phase 3 gave, without a header name among them, is what its text defines, but that white space is before the replacement list of the text.
 abbrev pub TextIsReadBack : Type 0
 TextIsReadBack = (tokens : List Token) (def : DefValue) → IsGiven tokens → AllByRecursion IsNoHeader tokens → def_of tokens ≡ Ok def → def_of_text (text_of def) ≡ Ok (record def { body = first_spaced def.body })
 
--- what phase 3 gives of a text, want of memory aside, is what the definition of a text starts from
-abbrev pub TokensAreLexed : Type 0
-TokensAreLexed = (text : List ℕ) (answer : Result (List Token) LexFault) → IsAnswer answer → LexesText text answer → tokens_of text ≡ answer
+-- what the definition of a text starts from is exactly what phase 3 gives of the text, want of memory aside: its tokens or its first fault
+pub record TokensAreLexed : Type 0 where
+  pub plain : (text : List ℕ) → IsAnswer (tokens_of text)
+  pub exactly : (text : List ℕ) (answer : Result (List Token) LexFault) → IsAnswer answer → (tokens_of text ≡ answer) ↔ LexesText text answer
 
 -- want of memory is no fault of tokens or of a text
 pub record FaultsArePlain : Type 0 where

@@ -1,4 +1,4 @@
--- Macro definitions: what the tokens behind `#define` define, and what they must not be (C17 6.10.3).
+-- Macro definitions: what the tokens after `#define` define, and what they must not be (C17 6.10.3).
 use Rattle.std.specs.Prelude.{ℕ, Bool, true, false, not, ◌&&◌, ◌||◌, if◌then◌else◌, List, [], ◌∷◌, ◌++◌, drop, Option, None, Some, Result, Ok, Err}
 use Rattle.std.specs.Option.{option_or}
 use Rattle.std.specs.List.{list_any}
@@ -7,7 +7,7 @@ use Rattle.mac_base.specs.Input.{◌>>=◌}
 use Rattle.pp_tokens.specs.Kinds.{same}
 use Rattle.pp_tokens.specs.declared.token.Token.{Token}
 use Rattle.pp_tokens.specs.declared.token.Kind.{Kind}
-use Rattle.pp_tokens.specs.declared.token.Kind.TheVariants.{Identifier, LoneQuote}
+use Rattle.pp_tokens.specs.Tokens as token
 use Rattle.macro_table.specs.declared.fault.DefFault.{DefFault}
 use Rattle.macro_table.specs.declared.fault.DefFault.TheVariants.{NoName, Reserved, ParamSyntax, RepeatedParam, VaArgs, EdgePaste, LoneHash}
 use Rattle.macro_table.specs.declared.fault.DefFault.TheVariants.{LoneQuote as QuoteInBody}
@@ -19,41 +19,39 @@ pub record DefValue : Type 0 where
   pub variadic : Bool
   pub body : List Token
 
--- the kind of names
+-- the kind of identifiers
 abbrev pub is_identifier_kind : Kind → Bool
-is_identifier_kind Identifier = true
-is_identifier_kind _ = false
+is_identifier_kind = token.is_identifier_kind
 
 -- the kind of quotes that nothing closes
 abbrev pub is_quote_kind : Kind → Bool
-is_quote_kind LoneQuote = true
-is_quote_kind _ = false
+is_quote_kind = token.is_quote_kind
 
 -- an identifier (6.4.2)
 abbrev pub is_identifier : Token → Bool
-is_identifier t = is_identifier_kind t.kind
+is_identifier = token.is_identifier
 
 -- a quote that nothing closes
 abbrev pub is_lone_quote : Token → Bool
-is_lone_quote t = is_quote_kind t.kind
+is_lone_quote = token.is_lone_quote
 
 -- the token has this spelling
 abbrev pub is_spelled : List ℕ → Token → Bool
-is_spelled text t = same t.text text
+is_spelled = token.is_spelled
+
+-- `#`, or `%:` (6.4.6 p3)
+abbrev pub is_hash : Token → Bool
+is_hash = token.is_hash
+
+-- `##`, or `%:%:` (6.4.6 p3)
+abbrev pub is_paste : Token → Bool
+is_paste = token.is_paste
 
 -- `__VA_ARGS__`
 abbrev pub is_va_args : Token → Bool
 is_va_args = is_spelled (codes "__VA_ARGS__")
 
--- `#`, or `%:` (6.4.6 p3)
-abbrev pub is_hash : Token → Bool
-is_hash t = is_spelled (codes "#") t || is_spelled (codes "%:") t
-
--- `##`, or `%:%:` (6.4.6 p3)
-abbrev pub is_paste : Token → Bool
-is_paste t = is_spelled (codes "##") t || is_spelled (codes "%:%:") t
-
--- the names that no macro has: `defined` (6.10.8 p4) and `__VA_ARGS__` (6.10.3 p5)
+-- the names that no macro has: `defined` (6.10.8 p2) and `__VA_ARGS__` (6.10.3 p5)
 abbrev pub is_reserved : Token → Bool
 is_reserved t = is_spelled (codes "defined") t || is_va_args t
 
@@ -76,13 +74,13 @@ abbrev pub unless : {A : Type 0} → Option DefFault → A → Result A DefFault
 unless None x = Ok x
 unless (Some fault) x = Err fault
 
--- a parameter list, and the tokens behind its `)`
+-- a parameter list, and the tokens after its `)`
 pub record ParamList : Type 0 where
   pub names : List (List ℕ)
   pub variadic : Bool
   pub behind : List Token
 
--- why a token can't be the parameter behind these (6.10.3 p5 and p6)
+-- why a token can't be the parameter after these (6.10.3 p5 and p6)
 abbrev pub param_fault : List (List ℕ) → Token → Option DefFault
 param_fault before t =
     first_of (
@@ -95,7 +93,7 @@ param_fault before t =
 abbrev pub closed : List (List ℕ) → Bool → Token → List Token → Result ParamList DefFault
 closed names variadic t ts = if is_spelled (codes ")") t then Ok (record { names = names; variadic = variadic; behind = ts }) else Err ParamSyntax
 
--- Where a parameter is due, behind those before it: `...` and `)`, or an identifier and then `)`, or `,` and again a parameter (6.10.3). The fault is the first from left to right.
+-- Where a parameter is due, after those before it: `...` and `)`, or an identifier and then `)`, or `,` and again a parameter (6.10.3). The fault is the first from left to right.
 abbrev pub params_from : List (List ℕ) → List Token → Result ParamList DefFault
 params_from before [] = Err ParamSyntax
 params_from before (t ∷ []) = unless (param_fault before t) before >>= λ _. Err ParamSyntax
@@ -104,7 +102,7 @@ params_from before (t ∷ u ∷ ts) =
     else (unless (param_fault before t) (before ++ t.text ∷ []) >>= λ names.
     (if is_spelled (codes ",") u then params_from names ts else closed names false u ts))
 
--- the parameter list behind its `(`, which may be empty
+-- the parameter list after its `(`, which may be empty
 abbrev pub param_list : List Token → Result ParamList DefFault
 param_list [] = Err ParamSyntax
 param_list (t ∷ ts) = if is_spelled (codes ")") t then closed [] false t ts else params_from [] (t ∷ ts)
@@ -124,17 +122,17 @@ last_passes test [] = false
 last_passes test (t ∷ []) = test t
 last_passes test (t ∷ u ∷ ts) = last_passes test (u ∷ ts)
 
--- a `#` stands in the list that no such parameter follows (6.10.3.2 p1)
+-- a `#` is in the list that no such parameter follows (6.10.3.2 p1)
 abbrev pub has_lone_hash : (Token → Bool) → List Token → Bool
 has_lone_hash is_param [] = false
 has_lone_hash is_param (t ∷ ts) = (is_hash t && not (first_passes is_param ts)) || has_lone_hash is_param ts
 
--- in an object-like macro any `#` may stand
+-- in an object-like macro any `#` is allowed
 abbrev pub breaks_hash_rule : Option (List (List ℕ)) → Bool → List Token → Bool
 breaks_hash_rule None variadic body = false
 breaks_hash_rule (Some names) variadic body = has_lone_hash (is_param names variadic) body
 
--- What a replacement list must not have, each over the whole list before the next: a quote that nothing closes, `__VA_ARGS__` where the macro has no `...` (6.10.3 p5), `##` at an edge (6.10.3.3 p1), and a `#` without a parameter.
+-- What a replacement list must not have, each over the whole list before the next: a quote that nothing closes (this project's rule: 6.4 p3 leaves it undefined), `__VA_ARGS__` where the macro has no `...` (6.10.3 p5), `##` at an edge (6.10.3.3 p1), and a `#` without a parameter.
 abbrev pub body_fault : Option (List (List ℕ)) → Bool → List Token → Option DefFault
 body_fault params variadic body =
     first_of (
@@ -144,11 +142,11 @@ body_fault params variadic body =
     ∷ where_true (breaks_hash_rule params variadic body) LoneHash
     ∷ [])
 
--- a definition whose replacement list may stand
+-- a definition whose replacement list is allowed
 abbrev pub checked : DefValue → Result DefValue DefFault
 checked def = unless (body_fault def.params def.variadic def.body) def
 
--- a name, and a parameter list with the replacement list behind it
+-- a name, and a parameter list with the replacement list after it
 abbrev pub function_like : List ℕ → ParamList → DefValue
 function_like name list = record { name = name; params = Some list.names; variadic = list.variadic; body = list.behind }
 
@@ -156,7 +154,7 @@ function_like name list = record { name = name; params = Some list.names; variad
 abbrev pub object_like : List ℕ → List Token → DefValue
 object_like name body = record { name = name; params = None; variadic = false; body = body }
 
--- what stands behind a name
+-- what is after a name
 abbrev pub def_behind : List ℕ → List Token → Result DefValue DefFault
 def_behind name tokens =
     if has_list tokens then (param_list (drop 1 tokens) >>= λ list. checked (function_like name list))
@@ -166,7 +164,7 @@ def_behind name tokens =
 abbrev pub name_fault : Token → Option DefFault
 name_fault t = first_of (where_true (not (is_identifier t)) NoName ∷ where_true (is_reserved t) Reserved ∷ [])
 
--- the definition that tokens behind `#define` are, or why they are none
+-- the definition that tokens after `#define` are, or why they are none
 abbrev pub def_of : List Token → Result DefValue DefFault
 def_of [] = Err NoName
 def_of (t ∷ ts) = unless (name_fault t) t >>= λ name. def_behind name.text ts

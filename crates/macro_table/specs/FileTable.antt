@@ -8,7 +8,7 @@ use Rattle.mac_base.specs.Names.{name_of}
 use Rattle.macro_table.specs.Tables.{EntryValue, TableOf}
 use Rattle.mac_base.specs.Items.{Item, Define, Undef, Start, End, is_start, starts_at, ends_or_reaches, first_inside}
 
--- the entries behind the one that begins a file
+-- the entries after the one that begins a file
 abbrev pub behind : {P : Type 0} → List (Item P) → ℕ → List (Item P)
 behind items start = drop (start + 1) items
 
@@ -24,11 +24,11 @@ levels items (line ∷ lines) depth (Some start) =
 abbrev pub instance : {P : Type 0} → List (Item P) → List ℕ → Result ℕ ℕ
 instance items lines = levels items lines 0 (position is_start items)
 
--- of the file that begins at this entry: all entries before the first one directly in it that stands in this line or a later one, or before its end
+-- of the file that begins at this entry: all entries before the first one directly in it that is in this line or a later one, or before its end
 abbrev pub prefix : {P : Type 0} → List (Item P) → ℕ → ℕ → List (Item P)
 prefix items start line = take (start + 1 + unwrap_or (first_inside (ends_or_reaches line) (behind items start) 0) (length items)) items
 
--- the files that are open behind an entry, the outermost first, each with the line of its inclusion
+-- the files that are open after an entry, the outermost first, each with the line of its inclusion
 abbrev pub open_behind : {P : Type 0} → List (P × ℕ) → Item P → List (P × ℕ)
 open_behind files (Define line text) = files
 open_behind files (Undef line name) = files
@@ -47,23 +47,23 @@ abbrev pub last_said : {P : Type 0} → List ℕ → List (P × ℕ) → List (I
 last_said name files [] = None
 last_said name files (item ∷ items) = option_or (last_said name (open_behind files item) items) (says name files item)
 
--- the definition of a name behind these entries
+-- the definition of a name after these entries
 abbrev pub definition : {P : Type 0} → List (Item P) → List ℕ → Option (EntryValue P)
 definition items name = unwrap_or (last_said name [] items) None
 
--- a table behind one entry more
+-- a table after one entry more
 abbrev pub changed : {P : Type 0} → List (P × ℕ) → TableOf P → Item P → TableOf P
 changed files table (Define line text) = finite.insert table (name_of text) (record { text = text; files = files; line = line })
 changed files table (Undef line name) = finite.remove table name
 changed files table (Start line path) = table
 changed files table End = table
 
--- a table behind some entries more
+-- a table after some entries more
 abbrev pub table_behind : {P : Type 0} → List (P × ℕ) → TableOf P → List (Item P) → TableOf P
 table_behind files table [] = table
 table_behind files table (item ∷ items) = table_behind (open_behind files item) (changed files table item) items
 
--- the definitions of all names behind these entries
+-- the definitions of all names after these entries
 abbrev pub table_of : {P : Type 0} → List (Item P) → TableOf P
 table_of items = table_behind [] finite.empty items
 

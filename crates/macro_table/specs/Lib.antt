@@ -1,6 +1,7 @@
 pub mod Tables
 pub mod Codes
 pub mod FileTable
+pub mod Instances
 pub mod Laws
 pub mod Faults
 pub mod Definitions

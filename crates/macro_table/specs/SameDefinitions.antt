@@ -6,7 +6,7 @@ use Rattle.pp_tokens.specs.Kinds.{same}
 use Rattle.pp_tokens.specs.declared.token.Token.{Token}
 use Rattle.macro_table.specs.Definitions.{DefValue}
 
--- the same spelling behind the same separation; all white space is the same
+-- the same spelling after the same separation; all white space is the same
 abbrev pub same_token : Token → Token → Bool
 same_token t u = beq t.space u.space && same t.text u.text
 

@@ -6,7 +6,7 @@ use Rattle.std.specs.FinMap as finite
 use Rattle.mac_base.specs.declared.frames.Frame.{Frame}
 use Rattle.macro_table.specs.declared.entry.Entry.{Entry}
 
--- A definition and where it stands: its text, the files that are open there, the outermost first, each with the line of its inclusion, and its own line. P names a file: by its path, or by the number of its path.
+-- A definition and where it is: its text, the files that are open there, the outermost first, each with the line of its inclusion, and its own line. P names a file: by its path, or by the number of its path.
 pub record EntryValue (P : Type 0) : Type 0 where
   pub text : List ℕ
   pub files : List (P × ℕ)

@@ -22,7 +22,7 @@ abbrev pub list_text : Option (List (List ℕ)) → Bool → List ℕ
 list_text None variadic = []
 list_text (Some names) variadic = codes "(" ++ join_with_byte 44 (list_words names variadic) ++ codes ")"
 
--- a token, behind one space where white space stands before it
+-- a token, after one space where white space is before it
 abbrev pub spaced : Token → List ℕ
 spaced t = (if t.space then codes " " else []) ++ t.text
 
@@ -35,7 +35,7 @@ body_text (t ∷ ts) = t.text ++ flat_map spaced ts
 abbrev pub text_of : DefValue → List ℕ
 text_of def = def.name ++ list_text def.params def.variadic ++ codes " " ++ body_text def.body
 
--- the page behind a piece, by the one behind the rest of the text; a comment is open where no piece stands in front
+-- the page after a piece, by the one after the rest of the text; a comment is open where no piece is in front
 abbrev pub page_behind : (Page → List Char → Result Page LexFault) → Page → List Char → Option (What × ℕ) → Result Page LexFault
 page_behind rest page chars None = Err (OpenComment (line_of chars))
 page_behind rest page chars (Some piece) = rest (put page piece.0 (take piece.1 chars)) (drop piece.1 chars)
@@ -56,7 +56,7 @@ abbrev pub tokens_unless : Option ℕ → List ℕ → Result (List Token) LexFa
 tokens_unless (Some line) text = Err (NulByte line)
 tokens_unless None text = page_tokens (page_of (length text) no_page (on_line_one text))
 
--- the tokens of a text by phase 3, or why it has none
+-- The tokens of a text by phase 3, or why it has none. The law TokensAreLexed says that this is exactly the answer of LexesText.
 abbrev pub tokens_of : List ℕ → Result (List Token) LexFault
 tokens_of text = tokens_unless (first_nul (on_line_one text)) text
 

@@ -4,7 +4,7 @@ ghost use Rattle.macro_table.specs.Definitions.{is_lone_quote, is_va_args, is_pa
 
 use crate::fault::DefFault;
 use crate::params::Params;
-use crate::sorts::{is_hash, is_lone_quote, is_paste, is_va_args};
+use crate::sorts::is_va_args;
 use pp_tokens::Token;
 
 /// The first fault of a replacement list (C17 6.10.3 p5, 6.10.3.2 p1 and 6.10.3.3 p1).
@@ -26,14 +26,14 @@ pub fn body_fault(params: &Option<Params>, variadic: bool, body: &[Token]) -> Op
     None
 }
 
-/// Whether a quote that nothing closes stands in the list.
+/// Whether a quote that nothing closes is in the list.
 fn has_lone_quote(body: &[Token]) -> bool
     ensures { result ≡ list_any is_lone_quote body.now }
 {
-    body.iter().any(|token| is_lone_quote(token))
+    body.iter().any(|token| token.is_lone_quote())
 }
 
-/// Whether `__VA_ARGS__` stands in the list.
+/// Whether `__VA_ARGS__` is in the list.
 fn has_va_args(body: &[Token]) -> bool
     ensures { result ≡ list_any is_va_args body.now }
 {
@@ -45,7 +45,7 @@ fn is_paste_first(body: &[Token]) -> bool
     ensures { result ≡ first_passes is_paste body.now }
 {
     match body {
-        [first, ..] => is_paste(first),
+        [first, ..] => first.is_paste(),
         [] => false,
     }
 }
@@ -55,12 +55,12 @@ fn is_paste_last(body: &[Token]) -> bool
     ensures { result ≡ last_passes is_paste body.now }
 {
     match body.split_last() {
-        Some((last, _)) => is_paste(last),
+        Some((last, _)) => last.is_paste(),
         None => false,
     }
 }
 
-/// Whether a `#` of a function-like macro stands before no parameter.
+/// Whether a `#` of a function-like macro is before no parameter.
 fn breaks_hash_rule(params: &Option<Params>, variadic: bool, body: &[Token]) -> bool
     ensures { result ≡ breaks_hash_rule params.now variadic body.now }
 {
@@ -70,13 +70,13 @@ fn breaks_hash_rule(params: &Option<Params>, variadic: bool, body: &[Token]) -> 
     }
 }
 
-/// Whether a `#` stands before no parameter.
+/// Whether a `#` is before no parameter.
 fn has_lone_hash(params: &Params, variadic: bool, body: &[Token]) -> bool
     ensures { result ≡ has_lone_hash (is_param params.now variadic) body.now }
 {
     let mut left = body;
     while let Some((token, behind)) = left.split_first() {
-        if is_hash(token) && !is_param_first(params, variadic, behind) {
+        if token.is_hash() && !is_param_first(params, variadic, behind) {
             return true;
         }
         left = behind;

@@ -3,7 +3,7 @@ use pp_tokens::{LexFault, lex_file};
 use std::alloc::Global;
 use std::test::Fail;
 
-/// What stands behind `#define`, and the text that gcc 12.2 writes of it.
+/// What is after `#define`, and the text that gcc 12.2 writes of it.
 #[test]
 fn texts_are_those_of_gcc(rt: HostRuntime) -> Result<(), Fail> {
     let cases: [(&[u8], &[u8]); 16] = [

@@ -1,6 +1,6 @@
 use mac_base::{Bytes, Place};
 
-/// A macro definition and where it stands.
+/// A macro definition and where it is.
 #[derive(Debug, Drop)]
 pub struct Entry {
     /// The name with its parameters, a space, and the replacement list.

@@ -7,28 +7,28 @@ use pp_tokens::LexFault;
 use std::alloc::AllocFailed;
 use thiserror::Error;
 
-/// Why tokens behind `#define` define no macro (C17 6.10.3).
+/// Why tokens after `#define` define no macro (C17 6.10.3).
 #[derive(Clone, Copy, Debug, PartialEq, Eq, Error)]
 pub enum DefFault {
     /// The first token is no identifier, or there is none.
     #[error("no name")]
     NoName,
-    /// The name is `defined` (6.10.8 p4) or `__VA_ARGS__` (6.10.3 p5).
+    /// The name is `defined` (6.10.8 p2) or `__VA_ARGS__` (6.10.3 p5).
     #[error("a reserved name")]
     Reserved,
-    /// What stands in the parameter list is no parameter list, or it is not closed.
+    /// What is in the parameter list is no parameter list, or it is not closed.
     #[error("not a parameter list")]
     ParamSyntax,
     /// Two parameters have one name (6.10.3 p6).
     #[error("a repeated parameter")]
     RepeatedParam,
-    /// `__VA_ARGS__` is a parameter, or stands in the replacement list of a macro without `...` (6.10.3 p5).
+    /// `__VA_ARGS__` is a parameter, or is in the replacement list of a macro without `...` (6.10.3 p5).
     #[error("a misplaced __VA_ARGS__")]
     VaArgs,
-    /// A quote that nothing closes stands in the replacement list.
+    /// A quote that nothing closes is in the replacement list (this project's rule: 6.4 p3 leaves it undefined).
     #[error("a lone quote")]
     LoneQuote,
-    /// `##` stands first or last in the replacement list (6.10.3.3 p1).
+    /// `##` is first or last in the replacement list (6.10.3.3 p1).
     #[error("## at an edge")]
     EdgePaste,
     /// In a function-like macro no parameter follows a `#` (6.10.3.2 p1).

@@ -19,10 +19,11 @@ pub use entry::Entry;
 pub use fault::{DefFault, TextFault};
 pub use identity::same;
 pub use laws::{
-    definitions_rest_on_phase_3, file_names_are_carried, table_has_last_word, text_is_read_back,
+    definitions_rest_on_phase_3, file_names_are_carried, first_inside_is_first,
+    table_has_last_word, text_is_read_back,
 };
 pub use parse::parse_define;
-pub use table::Table;
+pub use table::{Table, name_of};
 pub use texts::{def_of_text, text_of};
 
 #[cfg(test)]

@@ -5,12 +5,12 @@ ghost use Rattle.macro_table.specs.declared.fault.DefFault.TheVariants.{NoMemory
 
 use crate::fault::DefFault;
 use crate::params::Params;
-use crate::sorts::{is_identifier, is_spelled, is_va_args};
+use crate::sorts::is_va_args;
 use pp_tokens::Token;
 use std::alloc::Global;
 use std::marker::Model;
 
-/// A parameter list, and the tokens behind its `)`.
+/// A parameter list, and the tokens after its `)`.
 #[derive(Drop)]
 pub struct ParamList<'a> {
     pub names: Params,
@@ -26,12 +26,12 @@ impl<'a> Model for ParamList<'a> {
     ghost view = { λ l. record { names = l.names; variadic = l.variadic; behind = l.behind.now } };
 }
 
-/// The parameter list behind its `(` (C17 6.10.3), or its first fault from left to right.
+/// The parameter list after its `(` (C17 6.10.3), or its first fault from left to right.
 pub fn param_list(alloc: Global, tokens: &[Token]) -> Result<ParamList<'_>, DefFault>
     ensures { Answers RanOut result (param_list tokens.now) }
 {
     match tokens {
-        [first, behind @ ..] if is_spelled(b")", first) => Ok(ParamList {
+        [first, behind @ ..] if first.is_spelled(b")") => Ok(ParamList {
             names: Params::new(alloc),
             variadic: false,
             behind,
@@ -47,14 +47,14 @@ fn params_from(alloc: Global, tokens: &[Token]) -> Result<ParamList<'_>, DefFaul
     let mut names = Params::new(alloc);
     let mut left = tokens;
     while let [first, second, behind @ ..] = left {
-        if is_spelled(b"...", first) {
+        if first.is_spelled(b"...") {
             return closed(names, true, second, behind);
         }
         if let Some(fault) = param_fault(&names, first) {
             return Err(fault);
         }
         names = names.with(alloc, first.text.as_slice())?;
-        if !is_spelled(b",", second) {
+        if !second.is_spelled(b",") {
             return closed(names, false, second, behind);
         }
         left = behind;
@@ -73,11 +73,11 @@ fn cut_off(names: &Params, left: &[Token]) -> DefFault
     }
 }
 
-/// Why a token can't be the parameter behind these (C17 6.10.3 p5 and p6).
+/// Why a token can't be the parameter after these (C17 6.10.3 p5 and p6).
 fn param_fault(before: &Params, token: &Token) -> Option<DefFault>
     ensures { result ≡ param_fault before.now token.now }
 {
-    if !is_identifier(token) {
+    if !token.is_identifier() {
         return Some(DefFault::ParamSyntax);
     }
     if is_va_args(token) {
@@ -98,7 +98,7 @@ fn closed<'a>(
 ) -> Result<ParamList<'a>, DefFault>
     ensures { result ≡ closed names variadic last.now behind.now }
 {
-    if !is_spelled(b")", last) {
+    if !last.is_spelled(b")") {
         return Err(DefFault::ParamSyntax);
     }
     Ok(ParamList {

@@ -43,7 +43,7 @@ impl Params {
         self.known.contains(name)
     }
 
-    /// The names, and this one behind them.
+    /// The names, and this one after them.
     pub fn with(self, alloc: Global, name: &[u8]) -> Result<Params, NoMemory>
         ensures { IfOk result (λ names. names ≡ self ++ name.now ∷ []) }
     {

@@ -8,12 +8,12 @@ use crate::definition::Def;
 use crate::fault::DefFault;
 use crate::list::{ParamList, param_list};
 use crate::params::Params;
-use crate::sorts::{has_list, is_identifier, is_reserved};
+use crate::sorts::{has_list, is_reserved};
 use mac_base::{Bytes, Paths};
 use pp_tokens::{Token, Tokens};
 use std::alloc::Global;
 
-/// The definition that the tokens behind `#define` are (C17 6.10.3), or the first of its faults: of the name, of the
+/// The definition that the tokens after `#define` are (C17 6.10.3), or the first of its faults: of the name, of the
 /// parameter list from left to right, and then of the replacement list.
 pub fn parse_define(alloc: Global, tokens: &[Token]) -> Result<Def, DefFault>
     ensures { Answers RanOut result (def_of tokens.now) }
@@ -31,7 +31,7 @@ pub fn parse_define(alloc: Global, tokens: &[Token]) -> Result<Def, DefFault>
 fn name_fault(token: &Token) -> Option<DefFault>
     ensures { result ≡ name_fault token.now }
 {
-    if !is_identifier(token) {
+    if !token.is_identifier() {
         return Some(DefFault::NoName);
     }
     if is_reserved(token) {
@@ -40,7 +40,7 @@ fn name_fault(token: &Token) -> Option<DefFault>
     None
 }
 
-/// The definition of this name, from the tokens behind it.
+/// The definition of this name, from the tokens after it.
 fn def_behind(alloc: Global, name: &Bytes, tokens: &[Token]) -> Result<Def, DefFault>
     ensures { Answers RanOut result (def_behind name.now tokens.now) }
 {
@@ -55,7 +55,7 @@ fn def_behind(alloc: Global, name: &Bytes, tokens: &[Token]) -> Result<Def, DefF
     checked(alloc, name, Some(names), variadic, behind)
 }
 
-/// The definition with this replacement list, if the list may stand.
+/// The definition with this replacement list, if the list is allowed.
 fn checked(
     alloc: Global,
     name: &Bytes,

@@ -81,8 +81,8 @@ impl Table {
     }
 }
 
-/// The name with which a text begins.
-fn name_of(text: &[u8]) -> &[u8]
+/// The name with which the text of a macro definition begins: the longest prefix of bytes of an identifier.
+pub fn name_of(text: &[u8]) -> &[u8]
     ensures { result.now ≡ name_of text.now }
 {
     &text[..name_length(text)]

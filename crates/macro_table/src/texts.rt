@@ -13,7 +13,7 @@ use pp_tokens::{Token, lex_text};
 use std::alloc::Global;
 
 /// The text of a definition as a macro unit has it (DWARF 5, 6.3.2.1): the name, the parameter list of a function-like
-/// macro, one space, and the replacement list with one space where white space stood between its tokens.
+/// macro, one space, and the replacement list with one space where white space was between its tokens.
 pub fn text_of(alloc: Global, def: &Def) -> Result<Bytes, NoMemory>
     ensures { IfOk result (λ text. text ≡ text_of def.now) }
 {
@@ -37,7 +37,7 @@ fn put_list(text: &mut Vec<u8>, params: &Option<Paths>, variadic: bool) -> Resul
     Ok(())
 }
 
-/// Puts the parameters at the end of the text, and `...` behind them, with a comma between each two.
+/// Puts the parameters at the end of the text, and `...` after them, with a comma between each two.
 fn put_words(text: &mut Vec<u8>, names: &[Bytes], variadic: bool) -> Result<(), NoMemory>
     ensures { OnOk result (text.new.items ≡ text.old.items ++ join_with_byte 44 (list_words names.now variadic)) }
 {
@@ -50,7 +50,7 @@ fn put_words(text: &mut Vec<u8>, names: &[Bytes], variadic: bool) -> Result<(), 
     Ok(())
 }
 
-/// Puts a word of a parameter list at the end of the text, behind a comma where it is not the first.
+/// Puts a word of a parameter list at the end of the text, after a comma where it is not the first.
 fn put_word(text: &mut Vec<u8>, is_first: bool, word: &[u8]) -> Result<(), NoMemory>
     ensures { OnOk result (text.new.items ≡ text.old.items ++ (if is_first then [] else codes ",") ++ word.now) }
 {
@@ -75,7 +75,7 @@ fn put_body(text: &mut Vec<u8>, body: &[Token]) -> Result<(), NoMemory>
     Ok(())
 }
 
-/// Puts a token at the end of the text, behind one space where white space stands before it.
+/// Puts a token at the end of the text, after one space where white space is before it.
 fn put_token(text: &mut Vec<u8>, token: &Token) -> Result<(), NoMemory>
     ensures { OnOk result (text.new.items ≡ text.old.items ++ spaced token.now) }
 {
@@ -86,7 +86,7 @@ fn put_token(text: &mut Vec<u8>, token: &Token) -> Result<(), NoMemory>
     Ok(())
 }
 
-/// The definition that a text is, by phase 3 and as behind `#define` (C17 5.1.1.2 and 6.10.3), or why it is none.
+/// The definition that a text is, by phase 3 and as after `#define` (C17 5.1.1.2 and 6.10.3), or why it is none.
 pub fn def_of_text(alloc: Global, text: &[u8]) -> Result<Def, TextFault>
     ensures { Answers RanOut result (def_of_text text.now) }
 {
