@@ -81,7 +81,7 @@ open_by lines header b c cs true true first second is none =
 open_by lines header b c cs true false first second is none = cc
 open_by lines header b c cs false y first second is none = cc
 
-open_end : (lines header : Bool) (bytes : List ℕ) → IsOpen bytes → piece_at lines header bytes ≡ None
+pub open_end : (lines header : Bool) (bytes : List ℕ) → IsOpen bytes → piece_at lines header bytes ≡ None
 open_end lines header [] open_here = refl
 open_end lines header (b ∷ []) open_here = no (eqb 47 b) open_here.0
   where

@@ -151,7 +151,7 @@ IsOpen bytes = (begins (codes "/*") bytes ≡ true) × (up_to_close (drop 2 byte
 abbrev pub LeavesOpen : Bool → Page → List Char → ℕ → Type 0
 LeavesOpen lines page chars line = (pieces : List Piece) × (rest : List Char) × IsCut lines page chars pieces rest × IsOpen (bytes_of rest) × (line ≡ line_of rest)
 
--- why a text has no tokens: a byte 0, else an open comment
+-- why a text has no tokens: a byte 0 (this project's rule), else an open comment (5.1.1.2 p1, phase 3)
 abbrev pub IsFault : Option ℕ → Bool → List Char → LexFault → Type 0
 IsFault nul lines chars (NulByte line) = nul ≡ Some line
 IsFault nul lines chars (OpenComment line) = (nul ≡ None) × LeavesOpen lines no_page chars line

@@ -1,4 +1,4 @@
--- Which byte strings are preprocessing tokens, and of which kind (C17 6.4). The bytes from 128 on and `$` count as letters.
+-- Which byte strings are preprocessing tokens, and of which kind (C17 6.4). The bytes from 128 on and `$` count as letters, which 6.4.2.1 leaves to the implementation.
 use Rattle.std.specs.Prelude.{ℕ, ◌==◌, nat_eq, nat_le, Bool, true, false, not, ◌&&◌, ◌||◌, if◌then◌else◌, List, [], ◌∷◌, length, drop, Option, None, Some}
 use Rattle.std.specs.List.{list_any, list_all}
 use lib.Chars.{codes}
@@ -60,7 +60,7 @@ abbrev pub is_number : List ℕ → Bool
 is_number [] = false
 is_number (b ∷ bs) = begins_number b bs && is_number_rest b bs
 
--- Elements and then the closing quote, and nothing after it. An element is a byte other than the quote, `\` and a line feed, or `\` with the next byte that is no line feed (6.4.4.4 and 6.4.5).
+-- Elements and then the closing quote, and nothing after it. An element is a byte other than the quote, `\` and a line feed, or `\` with the next byte that is no line feed (6.4.4.4 and 6.4.5; that any byte may follow `\` is this project's rule).
 abbrev pub is_closed : ℕ → List ℕ → Bool
 is_closed quote [] = false
 is_closed quote (b ∷ []) = b == quote
@@ -120,7 +120,7 @@ is_one test [] = false
 is_one test (b ∷ []) = test b
 is_one test (b ∷ c ∷ bs) = false
 
--- The table of kinds. A header name is apart, since its place decides.
+-- The table of kinds. A header name is apart, since its place decides. That a quote which nothing closes is a token of a kind of its own is this project's rule: 6.4 p3 leaves it undefined.
 abbrev pub kind_of : List ℕ → Option Kind
 kind_of text =
     if is_identifier text then Some Identifier
