@@ -14,6 +14,7 @@ use Rattle.pp_tokens.specs.Cleaning.{Char, bytes_of, on_line_one}
 use Rattle.pp_tokens.specs.Kinds.{begins, is_blank, kind_of}
 use Rattle.pp_tokens.specs.Cut.{Page, Piece, no_page, put, put_all, with_token, ended, lines_of, chars_of, longest, longest_within, longer, token_or, header_name, line_rest, up_to_close, piece_at, header_may_stand, AreCut}
 use Rattle.pp_tokens.proofs.BothLemmas.{NoEnd, pick, blank_no_end, comment_no_end, token_no_end}
+use Rattle.pp_tokens.proofs.SpelledLemmas.{longest_kind}
 use Rattle.pp_tokens.proofs.AheadLemmas.{Ahead}
 use Rattle.macro_table.specs.DefinitionLaws.{IsNoHeader, IsGiven, of_text, of_file, TextIsReadBack}
 use Rattle.macro_table.proofs.AheadLemmas.{run_on, AllAhead, ahead_of, ahead_less}
@@ -177,17 +178,6 @@ record Held (t : Token) (ts : List Token) : Type 0 where
 abbrev AllHeld : List Token → Type 0
 AllHeld [] = Unit {0}
 AllHeld (t ∷ ts) = Held t ts × AllHeld ts
-
-longest_kind_by : (bytes : List ℕ) (m : ℕ) (o : Option Kind) (k : Kind) (n : ℕ) → kind_of (take (suc m) bytes) ≡ o → (longest_within bytes m ≡ Some (k, n) → kind_of (take n bytes) ≡ Some k) → longer o (suc m) (longest_within bytes m) ≡ Some (k, n) → kind_of (take n bytes) ≡ Some k
-longest_kind_by bytes m (Some kind) k n there inner is =
-    let far : suc m ≡ n = ap (λ (o : Option (Kind × ℕ)). (unwrap_or o (k, 0)).1) is in
-    let own : kind ≡ k = ap (λ (o : Option (Kind × ℕ)). (unwrap_or o (k, 0)).0) is in
-    ap (λ i. kind_of (take i bytes)) (sym far) ∙ there ∙ ap Some own
-longest_kind_by bytes m None k n there inner is = inner is
-
-longest_kind : (bytes : List ℕ) (m : ℕ) (k : Kind) (n : ℕ) → longest_within bytes m ≡ Some (k, n) → kind_of (take n bytes) ≡ Some k
-longest_kind bytes zero k n is = cc
-longest_kind bytes (suc m) k n is = longest_kind_by bytes m (kind_of (take (suc m) bytes)) k n refl (longest_kind bytes m k n) is
 
 word_front : (lines : Bool) (page : Page) (k : Kind) (chars : List Char) (ps : List Piece) → piece_at lines (header_may_stand page.tokens) (bytes_of (chars ++ chars_of ps ++ [])) ≡ Some (Word k, length chars) → k ≢ Header → Front (bytes_of chars ++ bytes_of (chars_of ps)) k (length (bytes_of chars))
 word_front lines page k chars ps stands other =

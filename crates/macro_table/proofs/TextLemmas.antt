@@ -12,7 +12,7 @@ use Rattle.pp_tokens.specs.declared.fault.LexFault.TheVariants.{NoMemory as LexR
 use Rattle.pp_tokens.specs.Cleaning.{Char, bytes_of, on_line_one}
 use Rattle.pp_tokens.specs.Cut.{Page, Piece, no_page, put, put_all, piece_at, header_may_stand, line_of, IsCut, IsOpen, LexesText, up_to_close}
 use Rattle.pp_tokens.specs.Laws.{IsAnswer}
-use Rattle.pp_tokens.proofs.UniqueLemmas.{head_of}
+use Rattle.pp_tokens.proofs.UniqueLemmas.{head_of, open_end}
 use Rattle.pp_tokens.proofs.ScanLemmas.{piece-fits}
 use Rattle.macro_table.specs.declared.fault.DefFault.{DefFault}
 use Rattle.macro_table.specs.declared.fault.DefFault.TheVariants.{NoName, Reserved, ParamSyntax, RepeatedParam, VaArgs, LoneQuote, EdgePaste, LoneHash}
@@ -57,30 +57,13 @@ at_end zero page = refl
 at_end (suc n) page = refl
 
 -- no piece stands where a comment is not closed
-open_by : (header : Bool) (b c : ℕ) (cs : List ℕ) (x y : Bool) → eqb 47 b ≡ x → eqb 42 c ≡ y → (x && (y && true)) ≡ true → up_to_close cs ≡ None → piece_at false header (b ∷ c ∷ cs) ≡ None
-open_by header b c cs true true first second is none =
-    let slash : 47 ≡ b = eqb-true 47 b first in
-    let star : 42 ≡ c = eqb-true 42 c second in
-    subst (λ z. piece_at false header (z ∷ c ∷ cs) ≡ None) slash (subst (λ z. piece_at false header (47 ∷ z ∷ cs) ≡ None) star (ap (option_map {U = What × ℕ} (λ n. (Comment, 2 + n))) none))
-open_by header b c cs true false first second is none = cc
-open_by header b c cs false y first second is none = cc
-
-open_end : (header : Bool) (bytes : List ℕ) → IsOpen bytes → piece_at false header bytes ≡ None
-open_end header [] open_here = refl
-open_end header (b ∷ []) open_here = no (eqb 47 b) open_here.0
-  where
-    no : (x : Bool) → (x && false) ≡ true → piece_at false header (b ∷ []) ≡ None
-    no true is = cc
-    no false is = cc
-open_end header (b ∷ c ∷ cs) open_here = open_by header b c cs (eqb 47 b) (eqb 42 c) refl refl open_here.0 open_here.1
-
 at_open : (n : ℕ) (page : Page) (rest : List Char) → IsOpen (bytes_of rest) → length rest ≤ n → page_of n page rest ≡ Err (OpenComment (line_of rest))
 at_open n page [] open_here enough = absurd (no_open open_here.0)
   where
     no_open : false ≡ true → ⊥
     no_open is = cc
 at_open zero page (c ∷ cs) open_here enough = absurd (omega arith)
-at_open (suc n) page (c ∷ cs) open_here enough = ap (page_behind (page_of n) page (c ∷ cs)) (open_end (header_may_stand page.tokens) (bytes_of (c ∷ cs)) open_here)
+at_open (suc n) page (c ∷ cs) open_here enough = ap (page_behind (page_of n) page (c ∷ cs)) (open_end false (header_may_stand page.tokens) (bytes_of (c ∷ cs)) open_here)
 
 long : (text : List ℕ) → length (on_line_one text) ≤ length text
 long text = subst (λ n. n ≤ length text) (sym (length-map {B = Char} text (λ b. record { byte = b; line = 1 }))) (omega arith)
