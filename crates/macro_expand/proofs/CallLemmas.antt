@@ -101,7 +101,7 @@ agree (Stands m ∷ ps) commas depth =
 
 -- How many commas count.
 
-not_zero : (a : ℕ) → nat_eq (suc a) 0 ≡ false
+pub not_zero : (a : ℕ) → nat_eq (suc a) 0 ≡ false
 not_zero a = go (nat_eq (suc a) 0) refl
   where
     go : (t : Bool) → nat_eq (suc a) 0 ≡ t → t ≡ false

@@ -15,8 +15,11 @@ pub mod CutLemmas
 pub mod ParamLemmas
 pub mod KnownLemmas
 pub mod CallLemmas
+pub mod InvocationLemmas
 pub mod HeadLemmas
+pub mod AlikeLemmas
 pub mod TrimLemmas
+pub mod FreeLemmas
 pub mod Moves
 pub mod NameLists
 pub mod LevelMoves

@@ -14,8 +14,8 @@ use Rattle.macro_table.specs.Definitions.{DefValue}
 use Rattle.macro_expand.specs.declared.cell.Cell.{Cell}
 use Rattle.macro_expand.specs.declared.hidden.Hidden.{Hidden}
 use Rattle.macro_expand.specs.Marked.{Names, Marked, spaced, hiding, is_hash, is_paste}
-use Rattle.macro_expand.specs.Calls.{paste_follows}
-use Rattle.macro_expand.specs.Substituted.{Argument, find_argument, Piece, front, is_behind_hash, with_else, word_of, token_put, put_in, join, is_joins, pasted_on, pasted, as_words, words, first_spaced, substituted}
+use Rattle.macro_expand.specs.Calls.{makes_string, paste_follows}
+use Rattle.macro_expand.specs.Substituted.{Argument, find_argument, Piece, front, with_else, word_of, token_put, put_in, join, is_joins, pasted_on, pasted, as_words, words, first_spaced, substituted}
 use Rattle.macro_expand.specs.States.{backwards, marked, piece_of, onto}
 
 -- a fault that is answered: want of memory, or the one that is read
@@ -48,7 +48,7 @@ word_err xs (Ok zs) fault h = cc
 word_err xs (Err e) fault h = cc
 
 module _ (macro : List ℕ) (calls : Bool) (args : List Argument) (before : Before) (next : Bool) (t : Token) (xs : List Piece)
-    (p : is_paste t ≡ false) (s : (calls && is_hash t && not (is_behind_hash before)) ≡ false) where
+    (p : is_paste t ≡ false) (s : makes_string calls t ≡ false) where
   plain_put : token_put macro calls args before next t ≡ as_else (word_of macro before next (find_argument args t) t)
   plain_put = rw (p, s) refl
 

@@ -1,5 +1,5 @@
 -- The arguments of a call of a function-like macro (C17 6.10.3 p10 to p12).
-use Rattle.std.specs.Prelude.{ℕ, ◌+◌, ◌-◌, nat_eq, nat_le, Bool, false, ◌&&◌, ◌||◌, not, if◌then◌else◌, List, [], ◌∷◌, length, Option, Some, None}
+use Rattle.std.specs.Prelude.{ℕ, ◌+◌, ◌-◌, nat_eq, nat_le, Bool, true, false, ◌&&◌, ◌||◌, not, if◌then◌else◌, List, [], ◌∷◌, length, Option, Some, None}
 use Rattle.pp_tokens.specs.declared.token.Token.{Token}
 use Rattle.macro_expand.specs.declared.part.Part.{Part}
 use Rattle.macro_expand.specs.declared.part.Part.TheVariants.{Opens, Closes, Comma, Inner}
@@ -76,20 +76,28 @@ arguments d inside = arguments_of (named_params d) (commas_of d inside) inside
 abbrev pub fits : DefValue → ℕ → Bool
 fits d count = if d.variadic then nat_le (length (named_params d)) count else nat_eq (length (named_params d)) count
 
--- whether `##` stands in front
+-- Whether the token is the operator `#`. In the replacement list of a function-like macro each `#` is, and a parameter follows it there, else the list is no definition (6.10.3.2 p1). In that of an object-like macro `#` is a token like others.
+abbrev pub makes_string : Bool → Token → Bool
+makes_string function_like t = function_like && is_hash t
+
+-- whether the token is an operator beside which a parameter may be: `##`, or the operator `#`; only a function-like macro has parameters
+abbrev pub is_operator : Token → Bool
+is_operator t = is_paste t || makes_string true t
+
+-- whether `##` is the next token
 abbrev pub paste_follows : List Token → Bool
 paste_follows [] = false
 paste_follows (t ∷ ts) = is_paste t
 
--- whether the name stands in front, neither directly behind an operator nor directly before `##`
+-- whether the name is the next token, neither directly after an operator nor directly before `##`
 abbrev pub is_free : List ℕ → Bool → List Token → Bool
-is_free name behind_operator [] = false
-is_free name behind_operator (t ∷ ts) = not behind_operator && is_named name t && not (paste_follows ts)
+is_free name after_operator [] = false
+is_free name after_operator (t ∷ ts) = not after_operator && is_named name t && not (paste_follows ts)
 
--- whether the name stands somewhere in a replacement list neither directly behind `#` or `##` nor directly before `##` (6.10.3.1 p1)
+-- whether the name is somewhere in a replacement list, neither directly after `#` or `##` nor directly before `##` (6.10.3.1 p1)
 unfoldable pub stands_free : List ℕ → Bool → List Token → Bool
-stands_free name behind_operator [] = false
-stands_free name behind_operator (t ∷ ts) = is_free name behind_operator (t ∷ ts) || stands_free name (is_paste t || is_hash t) ts
+stands_free name after_operator [] = false
+stands_free name after_operator (t ∷ ts) = is_free name after_operator (t ∷ ts) || stands_free name (is_operator t) ts
 
 -- an argument of a call: its parameter, whether its expansion is wanted, and its tokens as written
 pub record Waiting : Type 0 where

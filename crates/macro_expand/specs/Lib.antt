@@ -1,6 +1,7 @@
 pub mod Marked
 pub mod Macros
 pub mod Calls
+pub mod Invocations
 pub mod Substituted
 pub mod Heads
 pub mod Expansion

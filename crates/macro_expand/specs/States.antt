@@ -13,9 +13,9 @@ use Rattle.macro_expand.specs.declared.fault.ExpandFault.{ExpandFault}
 use Rattle.macro_expand.specs.declared.fault.ExpandFault.TheVariants.{NoMemory}
 use Rattle.pp_tokens.specs.declared.token.Token.{Token}
 use Rattle.pp_tokens.specs.declared.token.Kind.{Kind}
-use Rattle.macro_expand.specs.Marked.{Names, no_names, Marked, is_named, is_hash, is_paste, sound_kind}
+use Rattle.macro_expand.specs.Marked.{Names, no_names, Marked, is_named, is_paste, sound_kind}
 use Rattle.macro_expand.specs.Listed.{names_in}
-use Rattle.macro_expand.specs.Calls.{paste_follows}
+use Rattle.macro_expand.specs.Calls.{is_operator, paste_follows}
 use Rattle.macro_expand.specs.Substituted.{Argument, Piece, Word, Gap, Joins}
 
 -- the names of a list
@@ -94,15 +94,15 @@ abbrev pub onto : List Piece → Result (List Piece × Before) ExpandFault → R
 onto pieces (Ok put) = Ok (pieces ++ put.0, put.1)
 onto pieces (Err fault) = Err fault
 
--- whether the name stands in front, directly behind an operator or directly before `##`
+-- whether the name is the next token, directly after an operator or directly before `##`
 abbrev pub is_bound : List ℕ → Bool → List Token → Bool
-is_bound name behind_operator [] = false
-is_bound name behind_operator (t ∷ ts) = is_named name t && (behind_operator || paste_follows ts)
+is_bound name after_operator [] = false
+is_bound name after_operator (t ∷ ts) = is_named name t && (after_operator || paste_follows ts)
 
--- whether the name stands somewhere in a replacement list directly behind `#` or `##` or directly before `##`
+-- whether the name is somewhere in a replacement list directly after `#` or `##` or directly before `##`
 unfoldable pub stands_bound : List ℕ → Bool → List Token → Bool
-stands_bound name behind_operator [] = false
-stands_bound name behind_operator (t ∷ ts) = is_bound name behind_operator (t ∷ ts) || stands_bound name (is_paste t || is_hash t) ts
+stands_bound name after_operator [] = false
+stands_bound name after_operator (t ∷ ts) = is_bound name after_operator (t ∷ ts) || stands_bound name (is_operator t) ts
 
 -- whether `##` is among the tokens
 abbrev pub has_paste : List Token → Bool

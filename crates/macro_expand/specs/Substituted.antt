@@ -1,5 +1,5 @@
 -- A replacement list with the arguments in it, as three passes over lists (C17 6.10.3.1 to 6.10.3.3).
-use Rattle.std.specs.Prelude.{ℕ, nat_eq, Bool, true, false, ◌&&◌, ◌||◌, not, if◌then◌else◌, List, [], ◌∷◌, ◌++◌, map, flat_map, Option, Some, None, Result, Ok, Err, is_some}
+use Rattle.std.specs.Prelude.{ℕ, nat_eq, Bool, true, false, ◌||◌, if◌then◌else◌, List, [], ◌∷◌, ◌++◌, map, flat_map, Option, Some, None, Result, Ok, Err, is_some}
 use Rattle.pp_tokens.specs.declared.token.Token.{Token}
 use Rattle.pp_tokens.specs.declared.token.Kind.{Kind}
 use Rattle.pp_tokens.specs.declared.token.Kind.TheVariants.{Identifier, Number, Char, Str, Punct, Header, LoneQuote, Other}
@@ -8,9 +8,9 @@ use Rattle.macro_expand.specs.declared.before.Before.{Before}
 use Rattle.macro_expand.specs.declared.before.Before.TheVariants.{Else, Paste, Hash}
 use Rattle.macro_expand.specs.declared.fault.ExpandFault.{ExpandFault}
 use Rattle.macro_expand.specs.declared.fault.ExpandFault.TheVariants.{BadPaste, BadString}
-use Rattle.macro_expand.specs.Marked.{Names, intersection, Marked, fresh, spaced, hiding, is_literal, is_named, is_hash, is_paste, one_kind}
+use Rattle.macro_expand.specs.Marked.{Names, intersection, Marked, fresh, spaced, hiding, is_literal, is_named, is_paste, one_kind}
 use Rattle.macro_table.specs.Definitions.{DefValue}
-use Rattle.macro_expand.specs.Calls.{paste_follows}
+use Rattle.macro_expand.specs.Calls.{makes_string, paste_follows}
 
 -- an argument of a call: its parameter, its tokens as written, and what they expand to
 pub record Argument : Type 0 where
@@ -89,21 +89,15 @@ word_of macro Paste next None t = Ok (Word (fresh t) ∷ [])
 word_of macro Else next (Some a) t = Ok (in_place t.space (if next then a.plain else a.expanded))
 word_of macro Else next None t = Ok (Word (fresh t) ∷ [])
 
--- whether a `#` that is an operator stands before
-abbrev pub is_behind_hash : Before → Bool
-is_behind_hash (Hash space) = true
-is_behind_hash Paste = false
-is_behind_hash Else = false
-
 -- the pieces, behind which no operator stands
 abbrev pub with_else : List Piece → List Piece × Before
 with_else pieces = (pieces, Else)
 
--- the pieces of a token, by whether `##` follows, and what stands before the next; `#` is an operator in a function-like macro alone (6.10.3.2 p1)
+-- the pieces of a token, by what is before it and whether `##` follows; and what is before the next
 abbrev pub token_put : List ℕ → Bool → List Argument → Before → Bool → Token → Result (List Piece × Before) ExpandFault
 token_put macro calls args before next t =
     if is_paste t then Ok (Joins t ∷ [], Paste)
-    else (if calls && is_hash t && not (is_behind_hash before) then Ok ([], Hash t.space)
+    else (if makes_string calls t then Ok ([], Hash t.space)
     else (word_of macro before next (find_argument args t) t >>= (λ pieces. Ok (with_else pieces))))
 
 -- the pieces of a replacement list

@@ -1,10 +1,9 @@
 // The first pass over a replacement list: arguments and strings go in (C17 6.10.3.1 and 6.10.3.2).
-ghost use Rattle.std.specs.Prelude.{◌≡◌, ◌++◌, ◌&&◌, not, OnOk, map, length, Some};
+ghost use Rattle.std.specs.Prelude.{◌≡◌, ◌++◌, OnOk, map, length, Some};
 ghost use Rattle.std.specs.Option.{option_map, option_copied};
 ghost use Rattle.macro_expand.specs.declared.before.Before.TheVariants.{Else as NoOperator};
-ghost use Rattle.macro_expand.specs.Marked.{is_hash};
-ghost use Rattle.macro_expand.specs.Calls.{paste_follows};
-ghost use Rattle.macro_expand.specs.Substituted.{find_argument, in_place, is_behind_hash, word_of, token_put, put_in, front};
+ghost use Rattle.macro_expand.specs.Calls.{makes_string, paste_follows};
+ghost use Rattle.macro_expand.specs.Substituted.{find_argument, in_place, word_of, token_put, put_in, front};
 ghost use Rattle.macro_expand.specs.States.{Answers, marked, argument_of, piece_of, onto};
 
 use crate::before::Before;
@@ -78,13 +77,6 @@ fn put_in_place(space: bool, tokens: &[Hidden], cells: &mut Vec<Cell>) -> Result
     Ok(())
 }
 
-/// Whether a `#` that is an operator stands before.
-fn is_behind_hash(before: Before) -> bool
-    ensures { result ≡ is_behind_hash before }
-{
-    matches!(before, Before::Hash(_))
-}
-
 /// Puts an argument in the place of its parameter: behind `#` its string, beside `##` its tokens as written, elsewhere
 /// its expansion.
 fn put_argument(
@@ -141,11 +133,11 @@ fn put_word(
     Ok(())
 }
 
-/// Whether the token is a `#` that makes a string.
-fn makes_string(calls: bool, before: Before, token: &Token) -> bool
-    ensures { result ≡ (calls && is_hash token.now && not (is_behind_hash before)) }
+/// Whether the token is the operator `#`.
+fn makes_string(calls: bool, token: &Token) -> bool
+    ensures { result ≡ makes_string calls token.now }
 {
-    calls && is_hash(token) && !is_behind_hash(before)
+    calls && is_hash(token)
 }
 
 /// Puts in one token of the replacement list. It answers what stands before the next.
@@ -166,7 +158,7 @@ fn put_token(
         cells.push(Cell::Joins(token.copy()?))?;
         return Ok(Before::Paste);
     }
-    if makes_string(calls, before, token) {
+    if makes_string(calls, token) {
         return Ok(Before::Hash(token.space));
     }
     put_word(alloc, name, args, before, next, token, cells)?;

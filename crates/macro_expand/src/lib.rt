@@ -34,5 +34,5 @@ mod token;
 pub use expansion::expand;
 pub use fault::ExpandFault;
 pub use here::Here;
-pub use laws::one_answer;
+pub use laws::{calls_are_exact, one_answer, only_free_parameters_expand};
 pub use once::expand_once;

@@ -1,8 +1,7 @@
-// The parameters of a macro, and where they stand in its replacement list.
+// The parameters of a macro, and where they are in its replacement list.
 ghost use Rattle.std.specs.Prelude.{◌≡◌, ◌+◌, ◌∷◌, [], ◌||◌, IfOk, IfSome, ◌<◌, false, drop, length, List, ℕ, codes};
-ghost use Rattle.macro_expand.specs.Marked.{is_paste, is_hash};
 ghost use Rattle.macro_expand.specs.Macros.{named_params, params_of};
-ghost use Rattle.macro_expand.specs.Calls.{is_free, stands_free, fits};
+ghost use Rattle.macro_expand.specs.Calls.{is_operator, is_free, stands_free, fits};
 ghost use Rattle.macro_expand.specs.States.{is_bound, stands_bound, ParamAt};
 
 use crate::cell::paste_follows;
@@ -64,14 +63,14 @@ pub fn param_at(alloc: Global, def: &Def, at: usize) -> Result<Option<Bytes>, No
     Ok(None)
 }
 
-/// Whether the token is `#` or `##`.
+/// Whether the token is an operator of a function-like macro: `#` or `##`.
 fn is_operator(token: &Token) -> bool
-    ensures { result ≡ (is_paste token.now || is_hash token.now) }
+    ensures { result ≡ is_operator token.now }
 {
     is_paste(token) || is_hash(token)
 }
 
-/// Whether the name stands as this token, neither behind an operator nor before `##`.
+/// Whether the name is this token, neither after an operator nor before `##`.
 fn is_free(name: &[u8], behind: bool, token: &Token, rest: &[Token]) -> bool
     ensures { result ≡ is_free name.now behind (token.now ∷ rest.now) }
 {
@@ -80,7 +79,7 @@ fn is_free(name: &[u8], behind: bool, token: &Token, rest: &[Token]) -> bool
     !behind && named && !follows
 }
 
-/// Whether the name stands somewhere in the list neither directly behind an operator nor directly before `##`.
+/// Whether the name is somewhere in the list, neither directly after an operator nor directly before `##`.
 pub fn stands_free(name: &[u8], body: &[Token]) -> bool
     ensures { result ≡ stands_free name.now false body.now }
 {
@@ -96,7 +95,7 @@ pub fn stands_free(name: &[u8], body: &[Token]) -> bool
     false
 }
 
-/// Whether the name stands as this token, behind an operator or before `##`.
+/// Whether the name is this token, after an operator or before `##`.
 fn is_bound(name: &[u8], behind: bool, token: &Token, rest: &[Token]) -> bool
     ensures { result ≡ is_bound name.now behind (token.now ∷ rest.now) }
 {
@@ -105,7 +104,7 @@ fn is_bound(name: &[u8], behind: bool, token: &Token, rest: &[Token]) -> bool
     named && (behind || follows)
 }
 
-/// Whether the name stands somewhere in the list directly behind an operator or directly before `##`.
+/// Whether the name is somewhere in the list directly after an operator or directly before `##`.
 pub fn stands_bound(name: &[u8], body: &[Token]) -> bool
     ensures { result ≡ stands_bound name.now false body.now }
 {
