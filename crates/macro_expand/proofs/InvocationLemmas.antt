@@ -91,7 +91,7 @@ opened_more m o (suc d) b u =
       tokens = ap (λ l. m ∷ l) (u.tokens ∙ ap (λ l. u.first ++ u.closing ∷ l) v.tokens ∙ sym (append_assoc u.first (u.closing ∷ v.first) (v.closing ∷ v.more)));
       balanced = Pair u.first u.closing v.first o u.balanced u.matching v.balanced;
       matching = v.matching;
-      others = v.others
+      others = v.others;
     }
 
 -- what is found at a depth
@@ -268,7 +268,7 @@ listed (Pair {opening} inner closing after o i c a) =
     record {
       list = with_front group r.list;
       sound = front_sound group (λ x s. subst IsItem (sym (grouped x)) (Group inner closing x o i c s)) r.list r.sound;
-      tokens = front_tokens group r.list ∙ grouped (tokens_in r.list) ∙ ap (λ l. opening ∷ inner ++ closing ∷ l) r.tokens
+      tokens = front_tokens group r.list ∙ grouped (tokens_in r.list) ∙ ap (λ l. opening ∷ inner ++ closing ∷ l) r.tokens;
     }
 
 module _ (d : DefValue) (inside : List Marked) (args : List (List Marked)) where

@@ -190,7 +190,7 @@ fn hide_sets_travel(rt: HostRuntime) -> Result<(), Fail> {
     Ok(())
 }
 
-const SMALL: [&[u8]; 10] = [
+const SMALL: [&[u8]; 11] = [
     b"f(x) x",
     b"h(a,b) a##b",
     b"s(x) #x",
@@ -201,6 +201,7 @@ const SMALL: [&[u8]; 10] = [
     b"Z(",
     b"k(x) #x x##x x",
     b"two(x,y) y x",
+    b"hash(x) # # x",
 ];
 
 #[test]
@@ -217,6 +218,7 @@ fn faults(rt: HostRuntime) -> Result<(), Fail> {
     assert!(rt; expands(alloc, small, b"don't", b"LoneQuote")?);
     assert!(rt; expands(alloc, small, b"two(Z,f(1)", b"OpenCall two")?);
     assert!(rt; expands(alloc, small, b"two(Z,f())", b"BadDefinition Z")?);
+    assert!(rt; expands(alloc, small, b"hash(1)", b"BadDefinition hash")?);
     Ok(())
 }
 

@@ -5,5 +5,5 @@ pub returns : goal.returns
 returns c = record {
   call = λ list c. (call_found list c, call_is list c);
   unclosed = λ list. (none_found list, none_there list);
-  items = λ d inside args b. (items_found d inside args, items_there d inside args b)
+  items = λ d inside args b. (items_found d inside args, items_there d inside args b);
 }
