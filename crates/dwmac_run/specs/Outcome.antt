@@ -4,7 +4,7 @@ use Rattle.macro_query.specs.declared.fault.QueryFault.{QueryFault}
 use Rattle.macro_query.specs.declared.fault.QueryFault.TheVariants.{Elf as QueryElf, Info as QueryInfo, Line as QueryLine, Unit as QueryUnit, NoSuchUnit as QueryNoSuchUnit, Position as QueryPosition, Text as QueryText, Expand as QueryExpand, ReportTooLong, NoMemory as QueryRanOut}
 use Rattle.std.specs.declared.vec.Vec.{Vec}
 use Rattle.std.specs.declared.alloc.Global.{Global}
-use Rattle.macro_query.specs.Limits.{most_report}
+use Rattle.mac_base.specs.ReportText.{most_report}
 use Rattle.mac_io.specs.Calls.{grown}
 use Rattle.mac_io.specs.Causes.{Rose}
 use Rattle.dwmac_run.specs.Answers.{Answer, Prints, Refuses, Misuse}

@@ -1,6 +1,6 @@
 -- The words on a file that is refused: a kind of fault is printed as its name, with its section or place.
 use Rattle.std.specs.Prelude.{ℕ, List, ◌++◌, codes, decimal}
-use Rattle.macro_query.specs.UnitLines.{hex}
+use Rattle.mac_base.specs.ReportText.{hex}
 use Rattle.macro_query.specs.declared.fault.QueryFault.{QueryFault}
 use Rattle.macro_query.specs.declared.fault.QueryFault.TheVariants.{Elf as QueryElf, Info as QueryInfo, Line as QueryLine, Unit as QueryUnit, NoSuchUnit as QueryNoSuchUnit, Position as QueryPosition, Text as QueryText, Expand as QueryExpand, ReportTooLong, NoMemory}
 use Rattle.section_views.specs.declared.fault.ElfFault.{ElfFault}

@@ -3,7 +3,7 @@ use Rattle.std.specs.Prelude.{◌≡◌, ℕ, nat_lt, map, if◌then◌else◌, 
 use Rattle.std.specs.List.{All}
 use Rattle.mac_io.specs.Files.{Files}
 use Rattle.import_graph.specs.Graph.{named}
-use Rattle.macro_query.specs.Limits.{most_report}
+use Rattle.mac_base.specs.ReportText.{most_report}
 use Rattle.mac_base.specs.ItemLines.{item_lines}
 use Rattle.pp_unit.specs.declared.spec.UnitSpec.{UnitSpec}
 use Rattle.pp_unit.specs.declared.fault.PpFault.{PpFault}

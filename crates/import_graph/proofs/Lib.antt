@@ -16,6 +16,7 @@ mod RootLemmas
 pub mod OneSpliceLemmas
 pub mod OneWalkLemmas
 pub mod AnswerLemmas
+pub mod ToldLemmas
 mod SaidLemmas
 mod WholeLemmas
 mod DecidedLemmas

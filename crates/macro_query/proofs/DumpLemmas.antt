@@ -13,7 +13,8 @@ use Rattle.import_graph.specs.Graph.{GraphValue, IsGraphOf, most_items, named, N
 use Rattle.mac_base.specs.declared.memory.NoMemory.{NoMemory}
 use Rattle.macro_query.specs.declared.fault.QueryFault.{QueryFault}
 use Rattle.macro_query.specs.declared.fault.QueryFault.TheVariants.{NoMemory as RanOut}
-use Rattle.macro_query.specs.Limits.{Answers, Tells, limited}
+use Rattle.macro_query.specs.Limits.{Answers, limited}
+use Rattle.mac_base.specs.ReportText.{Tells}
 use Rattle.macro_query.specs.Roots.{file_fault, RootSays, root_line, root_lines, joined, DumpOf}
 use Rattle.mac_base.specs.ItemLines.{item_line, item_lines}
 use Rattle.macro_query.proofs.QueryLemmas.{Said, handed_on}

@@ -11,18 +11,19 @@ use Rattle.pp_tokens.specs.Printing.{Prints}
 use Rattle.macro_table.specs.Tables.{EntryValue, TableOf, renamed_value}
 use Rattle.macro_table.specs.Texts.{tokens_of, def_of_text}
 use Rattle.macro_table.proofs.TextLemmas.{tokens_given, fault_given}
-use Rattle.import_graph.specs.Graph.{GraphValue, named}
+use Rattle.import_graph.specs.Graph.{GraphValue}
 use Rattle.mac_base.specs.ItemLines.{path_in}
-use Rattle.position_table.specs.declared.spot.Spot.{Spot}
 use Rattle.macro_expand.specs.declared.here.Here.{Here}
 use Rattle.macro_expand.specs.declared.fault.ExpandFault.{ExpandFault}
 use Rattle.macro_expand.specs.declared.fault.ExpandFault.TheVariants.{OpenCall, ArgCount, BadPaste, BadString, BadDefinition, LoneQuote, TooLong, NoMemory as ExpandRanOut}
 use Rattle.macro_expand.specs.Macros.{Macros, macros_of, sound_def}
 use Rattle.macro_expand.specs.Answering.{IsAnswer}
 use Rattle.macro_query.specs.declared.fault.QueryFault.TheVariants.{Text, Expand}
-use Rattle.macro_query.specs.Limits.{Answers, Tells, limited}
+use Rattle.macro_query.specs.Limits.{Answers, limited}
+use Rattle.mac_base.specs.ReportText.{Tells}
 use Rattle.macro_query.specs.Faults.{text_fault, expand_fault}
-use Rattle.macro_query.specs.Scopes.{Scope, begun_path, IsNamed, IsScope}
+use Rattle.macro_query.specs.Scopes.{path_of_file, IsNamed, IsScope}
+use Rattle.position_table.specs.Scopes.{Scope}
 use Rattle.macro_query.specs.Expansions.{here_of, PrintsLine, ByTokens, TextSays}
 use Rattle.macro_query.proofs.QueryLemmas.{Said, handed_on, answers_by}
 
@@ -40,10 +41,10 @@ same_macros paths numbers table is = λ i name.
     sym (ap (option_map (λ (entry : EntryValue (List ℕ)). sound_def (def_of_text entry.text))) (is.1 name) ∙ text_named paths (finite.get numbers name)) i
 
 -- in the scope that was found
-pub in_scope : (result : Said) (Rules : Rule) (text : List ℕ) (graph : GraphValue) (spot : Spot) (numbers : TableOf ℕ) (here : Here) (scope : Scope) → IsScope graph spot numbers scope →
-    (here.line ≡ spot.line) × (here.file ≡ begun_path (slice_get (named graph.paths graph.items) spot.start)) →
+pub in_scope : (result : Said) (Rules : Rule) (text : List ℕ) (graph : GraphValue) (file : Option ℕ) (at : ℕ) (numbers : TableOf ℕ) (here : Here) (scope : Scope) → IsScope graph file at numbers scope →
+    (here.line ≡ at) × (here.file ≡ path_of_file graph.paths file) →
     Answers result (ByTokens (Rules (macros_of numbers) here) (tokens_of text)) → Answers result (TextSays Rules text scope)
-in_scope result Rules text graph spot numbers here scope is there answer =
+in_scope result Rules text graph file at numbers here scope is there answer =
     let same : here ≡ here_of scope = λ i. record { line = (there.0 ∙ is.line) i; file = (there.1 ∙ is.path) i } in
     subst (λ (h : Here). Answers result (ByTokens (Rules (macros_of scope.table) h) (tokens_of text))) same
     (subst (λ (m : Macros). Answers result (ByTokens (Rules m here) (tokens_of text))) (same_macros graph.paths numbers scope.table is.table) answer)

@@ -9,3 +9,4 @@ pub mod TableLemmas
 pub mod PrintLemmas
 pub mod ExpansionLemmas
 pub mod OneAnswerLemmas
+mod SaidLemmas

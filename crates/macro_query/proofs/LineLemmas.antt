@@ -9,30 +9,7 @@ use Rattle.unit_header.specs.declared.fault.UnitKind.TheVariants.{StrRange}
 use Rattle.macro_opcodes.specs.Entry.{Entry}
 use Rattle.macro_query.specs.UnitLines.{line_of, report}
 use Rattle.macro_query.specs.Unit.{with_string}
-use Rattle.macro_query.specs.Limits.{Tells}
-
-pub digits-onto : (n : ℕ) → digits_onto 64 16 false n [] ≡ digits 16 false n
-unfolding digits
-digits-onto n = refl
-
-onto_suc : (k n : ℕ) (acc : List ℕ) (t : Bool) → eqb (n / 16) 0 ≡ t → digits_onto (suc k) 16 false n acc ≡ cond t (digit_glyph false (n % 16) ∷ acc) (digits_onto k 16 false (n / 16) (digit_glyph false (n % 16) ∷ acc))
-onto_suc k n acc t e = ap (λ b. cond b (digit_glyph false (n % 16) ∷ acc) (digits_onto k 16 false (n / 16) (digit_glyph false (n % 16) ∷ acc))) e
-
-pub onto_last : (i n : ℕ) (acc : List ℕ) → 0 < i → n / 16 ≡ 0 → digits_onto i 16 false n acc ≡ digit_glyph false (n % 16) ∷ acc
-onto_last zero n acc some e = absurd (omega arith)
-onto_last (suc k) n acc some e = onto_suc k n acc true (eq-eqb (n / 16) 0 e)
-
-pub onto_step : (i n : ℕ) (acc : List ℕ) → 0 < i → n / 16 ≢ 0 → digits_onto i 16 false n acc ≡ digits_onto (i - 1) 16 false (n / 16) (digit_glyph false (n % 16) ∷ acc)
-onto_step zero n acc some e = absurd (omega arith)
-onto_step (suc k) n acc some e =
-    let less : k ≡ suc k - 1 = omega arith in
-    onto_suc k n acc false (apart_eqb (n / 16) 0 e) ∙ ap (λ j. digits_onto j 16 false (n / 16) (digit_glyph false (n % 16) ∷ acc)) less
-
-pub one_more_digit : (room : List ℕ) (i x g : ℕ) → 0 < i → i ≤ length room → x ≡ g → drop (i - 1) (set room (i - 1) x) ≡ g ∷ drop i room
-one_more_digit room i x g some within is =
-    let inside : i - 1 < length room = omega arith in
-    let next : i - 1 + 1 ≡ i = omega arith in
-    drop-set room (i - 1) x inside ∙ (λ t. is t ∷ drop (next t) room)
+use Rattle.mac_base.specs.ReportText.{Tells}
 
 pub with_string-some : (e : Entry) (o : Option (List ℕ)) → is_some o ≡ true → IsOk (with_string e o)
 with_string-some e None is = absurd (some_none is)
@@ -51,10 +28,3 @@ ok_value (Err f) is = cc
 
 pub report_more : (lines : List Entry) (line : Entry) → report (lines ++ line ∷ []) ≡ report lines ++ line_of line
 report_more lines line = sym (flat_map_more line_of [] lines line)
-
--- a line more
-pub tells_more : (old text whole line : List ℕ) → Tells false old whole → text ≡ old ++ line → (b : Bool) (new : List ℕ) → Tells b new text → Tells b new (whole ++ line)
-tells_more old text whole line tells grows b new is = subst (λ (xs : List ℕ). Tells b new xs) (grows ∙ ap (λ xs. xs ++ line) tells.0) is
-
-pub tells_no_more : (old new whole line : List ℕ) → Tells true old whole → Tells true new (whole ++ line)
-tells_no_more old new whole line tells = omega (arith, length-append whole line, tells)

@@ -29,7 +29,8 @@ use Rattle.macro_expand.proofs.WholeTexts.{one_whole}
 use Rattle.macro_query.specs.declared.fault.QueryFault.{QueryFault}
 use Rattle.macro_query.specs.declared.fault.QueryFault.TheVariants.{Info, NoSuchUnit, Position as BadPosition, Text, Expand}
 use Rattle.macro_query.specs.Roots.{file_fault, RootSays, ByRoots, RootsSay, root_lines, joined, ThenSays, DumpOf}
-use Rattle.macro_query.specs.Scopes.{Scope, scope_by, names_path, ChainLeads, ByStart, InRoot, NamedLeads, PositionLeads}
+use Rattle.macro_query.specs.Scopes.{scope_by, ChainLeads, ByFound, InRoot, NamedLeads, PositionLeads}
+use Rattle.position_table.specs.Scopes.{Scope, names_path, path_scope}
 use Rattle.macro_query.specs.Tables.{info_text, list_text}
 use Rattle.macro_query.specs.Expansions.{here_of, PrintsLine, ByTokens, TextSays}
 use Rattle.macro_query.specs.Queries.{DumpSays, LeadsTo, ByScope, ScopeSays, InfoSays, ListSays, ExpandSays, OnceSays}
@@ -106,12 +107,12 @@ one_chain : (root : Option Root) (lines : List ℕ) (line : ℕ) (s : SectionByt
 one_chain None lines line s = one_same (Err NoSuchUnit)
 one_chain (Some root) lines line s = one_behind s root (λ first found. found ≡ scope_by lines line first) (λ first. one_same (scope_by lines line first))
 
-one_start : (items : Items) (line : ℕ) (start : Option ℕ) (More : Lead → Type 0) → One More → One (ByStart items line start More)
-one_start items line (Some start) More one = one_same _
-one_start items line None More one = one
+one_found : (scope : Option Scope) (More : Lead → Type 0) → One More → One (ByFound scope More)
+one_found (Some scope) More one = one_same (Ok scope)
+one_found None More one = one
 
 one_in_root : (path : List ℕ) (line : ℕ) (More : Lead → Type 0) → One More → (first : First) → One (InRoot path line first More)
-one_in_root path line More one (Ok items) = one_start items line (position (names_path path) items) More one
+one_in_root path line More one (Ok items) = one_found (path_scope items path line) More one
 one_in_root path line More one (Err fault) = one_same (Err (file_fault fault))
 
 one_named : (path : List ℕ) (line : ℕ) (s : SectionBytes) (roots : List Root) → One (NamedLeads path line s roots)

@@ -25,7 +25,8 @@ use Rattle.macro_query.specs.declared.fault.QueryFault.{QueryFault}
 use Rattle.macro_query.specs.declared.fault.QueryFault.TheVariants.{Position, NoSuchUnit, NoMemory as RanOut}
 use Rattle.macro_query.specs.Faults.{pos_fault}
 use Rattle.macro_query.specs.Roots.{file_fault}
-use Rattle.macro_query.specs.Scopes.{Scope, begun_path, scope_in, scope_of, names_path, IsNamed, IsScope, ChainLeads, ByStart, NamedLeads, PositionLeads}
+use Rattle.macro_query.specs.Scopes.{of_chain, path_of_file, IsNamed, IsScope, ChainLeads, ByFound, NamedLeads, PositionLeads}
+use Rattle.position_table.specs.Scopes.{Scope, begun_file, begun_path, scope_in, names_path, scope_from}
 use Rattle.macro_query.proofs.DumpLemmas.{graph_says}
 use Rattle.macro_query.proofs.NamedLemmas.{is_named_at}
 
@@ -34,8 +35,8 @@ abbrev pub Lead : Type 0
 Lead = Result Scope QueryFault
 
 -- what was found is a scope that is led to
-abbrev pub Finds : GraphValue → Spot → TableOf ℕ → (Lead → Type 0) → Type 0
-Finds graph spot numbers Leads = (scope : Scope) × IsScope graph spot numbers scope × Leads (Ok scope)
+abbrev pub Finds : GraphValue → Option ℕ → ℕ → TableOf ℕ → (Lead → Type 0) → Type 0
+Finds graph file at numbers Leads = (scope : Scope) × IsScope graph file at numbers scope × Leads (Ok scope)
 
 -- a fault that is led to, unless memory ran out
 abbrev pub Fails : {A : Type 0} → (Result A QueryFault → Type 0) → QueryFault → Type 0
@@ -45,24 +46,30 @@ pub err_by : {A : Type 0} (result : Result A QueryFault) (fault : QueryFault) (P
 err_by (Ok found) fault P is p = absurd is
 err_by (Err found) fault P is p = subst P (sym is) p
 
-is_scope : (graph : GraphValue) (spot : Spot) (line : ℕ) (numbers : TableOf ℕ) → spot.line ≡ line → numbers ≡ table_of (prefix graph.items spot.start spot.line) →
-    IsScope graph spot numbers (scope_in (named graph.paths graph.items) line spot.start)
-is_scope graph spot line numbers same table = record {
-  path = refl;
-  line = same;
-  table = subst (λ (t : TableOf ℕ). IsNamed graph.paths t (table_of (prefix (named graph.paths graph.items) spot.start line)))
-      (sym (table ∙ ap (λ n. table_of (prefix graph.items spot.start n)) same)) (is_named_at graph.paths graph.items spot.start line);
+path_begun : (paths : List (List ℕ)) (o : Option (Item ℕ)) → path_of_file paths (begun_file o) ≡ begun_path (option_map (renamed (path_in paths)) o)
+path_begun paths None = refl
+path_begun paths (Some (Define line text)) = refl
+path_begun paths (Some (Undef line name)) = refl
+path_begun paths (Some (Start line file)) = refl
+path_begun paths (Some End) = refl
+
+is_scope : (graph : GraphValue) (start line : ℕ) (file : Option ℕ) (numbers : TableOf ℕ) → file ≡ begun_file (slice_get graph.items start) → numbers ≡ table_of (prefix graph.items start line) →
+    IsScope graph file line numbers (scope_in (named graph.paths graph.items) line start)
+is_scope graph start line file numbers begins table = record {
+  path = ap (path_of_file graph.paths) begins ∙ path_begun graph.paths (slice_get graph.items start) ∙ ap begun_path (sym (slice_get-map (renamed (path_in graph.paths)) graph.items start));
+  line = refl;
+  table = subst (λ (t : TableOf ℕ). IsNamed graph.paths t (table_of (prefix (named graph.paths graph.items) start line))) (sym table) (is_named_at graph.paths graph.items start line);
 }
 
 -- at a chain of lines
-pub chain_found : (s : SectionBytes) (root : Root) (graph : GraphValue) (lines : List ℕ) (line : ℕ) (spot : Spot) (numbers : TableOf ℕ) → IsGraphOf s root graph → IsSpotOf graph.items lines line (Ok spot) →
-    numbers ≡ table_of (prefix graph.items spot.start spot.line) → Finds graph spot numbers (ChainLeads (Some root) lines line s)
-chain_found s root graph lines line spot numbers is found table =
+pub chain_found : (s : SectionBytes) (root : Root) (graph : GraphValue) (lines : List ℕ) (line : ℕ) (spot : Spot) (file : Option ℕ) (numbers : TableOf ℕ) → IsGraphOf s root graph → IsSpotOf graph.items lines line (Ok spot) →
+    file ≡ begun_file (slice_get graph.items spot.start) → numbers ≡ table_of (prefix graph.items spot.start spot.line) → Finds graph file line numbers (ChainLeads (Some root) lines line s)
+chain_found s root graph lines line spot file numbers is found begins table =
     let items = named graph.paths graph.items in
     let there : instance items lines ≡ Ok spot.start = same_instance (path_in graph.paths) graph.items lines ∙ found.0 in (
       scope_in items line spot.start,
-      is_scope graph spot line numbers found.1 table,
-      (Ok items, graph_says s root graph is, ap (scope_of items line) (sym there)),
+      is_scope graph spot.start line file numbers begins (table ∙ ap (λ n. table_of (prefix graph.items spot.start n)) found.1),
+      (Ok items, graph_says s root graph is, ap (λ (r : Result ℕ ℕ). of_chain (scope_from items line r)) (sym there)),
     )
 
 chain_missing : (s : SectionBytes) (root : Root) (graph : GraphValue) (lines : List ℕ) (line depth : ℕ) → IsGraphOf s root graph → instance graph.items lines ≡ Err depth →
@@ -70,7 +77,7 @@ chain_missing : (s : SectionBytes) (root : Root) (graph : GraphValue) (lines : L
 chain_missing s root graph lines line depth is missing =
     let items = named graph.paths graph.items in
     let there : instance items lines ≡ Err depth = same_instance (path_in graph.paths) graph.items lines ∙ missing in
-    (Ok items, graph_says s root graph is, ap (scope_of items line) (sym there))
+    (Ok items, graph_says s root graph is, ap (λ (r : Result ℕ ℕ). of_chain (scope_from items line r)) (sym there))
 
 pub chain_stops : (s : SectionBytes) (root : Root) (graph : GraphValue) (lines : List ℕ) (line : ℕ) (fault : PosFault) → IsGraphOf s root graph → IsSpotOf graph.items lines line (Err fault) →
     Fails (ChainLeads (Some root) lines line s) (pos_fault fault)
@@ -99,15 +106,15 @@ prefix_named paths path (item ∷ items) = λ i. cond (not (begins_same paths pa
 position_named : (paths : List (List ℕ)) (path : List ℕ) (items : List (Item ℕ)) → position (names_path path) (named paths items) ≡ position (begins_path paths path) items
 position_named paths path items = λ i. cond (ltb (prefix_named paths path items i) (length-map items (renamed (path_in paths)) i)) (Some (prefix_named paths path items i)) None
 
-pub named_found : (s : SectionBytes) (path : List ℕ) (line : ℕ) (roots : List Root) (root : Root) (left : List Root) (graph : GraphValue) (spot : Spot) (numbers : TableOf ℕ) → Passes s path line roots (root ∷ left) → IsGraphOf s root graph →
-    position (begins_path graph.paths path) graph.items ≡ Some spot.start → spot.line ≡ line → numbers ≡ table_of (prefix graph.items spot.start spot.line) → Finds graph spot numbers (NamedLeads path line s roots)
-named_found s path line roots root left graph spot numbers passes is found same table =
+pub named_found : (s : SectionBytes) (path : List ℕ) (line : ℕ) (roots : List Root) (root : Root) (left : List Root) (graph : GraphValue) (start : ℕ) (file : Option ℕ) (numbers : TableOf ℕ) → Passes s path line roots (root ∷ left) → IsGraphOf s root graph →
+    position (begins_path graph.paths path) graph.items ≡ Some start → file ≡ begun_file (slice_get graph.items start) → numbers ≡ table_of (prefix graph.items start line) → Finds graph file line numbers (NamedLeads path line s roots)
+named_found s path line roots root left graph start file numbers passes is found begins table =
     let items = named graph.paths graph.items in
-    let there : position (names_path path) items ≡ Some spot.start = position_named graph.paths path graph.items ∙ found in
-    let scope = scope_in items line spot.start in (
+    let there : position (names_path path) items ≡ Some start = position_named graph.paths path graph.items ∙ found in
+    let scope = scope_in items line start in (
       scope,
-      is_scope graph spot line numbers same table,
-      passes (Ok scope) (Ok items, graph_says s root graph is, subst (λ (o : Option ℕ). ByStart items line o (NamedLeads path line s left) (Ok scope)) (sym there) refl),
+      is_scope graph start line file numbers begins table,
+      passes (Ok scope) (Ok items, graph_says s root graph is, subst (λ (o : Option ℕ). ByFound (option_map (scope_in items line) o) (NamedLeads path line s left) (Ok scope)) (sym there) refl),
     )
 
 pub named_next : (s : SectionBytes) (path : List ℕ) (line : ℕ) (roots : List Root) (root : Root) (left : List Root) (graph : GraphValue) → Passes s path line roots (root ∷ left) → IsGraphOf s root graph →
@@ -115,7 +122,7 @@ pub named_next : (s : SectionBytes) (path : List ℕ) (line : ℕ) (roots : List
 named_next s path line roots root left graph passes is missing found leads =
     let items = named graph.paths graph.items in
     let there : position (names_path path) items ≡ None = position_named graph.paths path graph.items ∙ missing in
-    passes found (Ok items, graph_says s root graph is, subst (λ (o : Option ℕ). ByStart items line o (NamedLeads path line s left) found) (sym there) leads)
+    passes found (Ok items, graph_says s root graph is, subst (λ (o : Option ℕ). ByFound (option_map (scope_in items line) o) (NamedLeads path line s left) found) (sym there) leads)
 
 pub named_fails : (s : SectionBytes) (path : List ℕ) (line : ℕ) (roots : List Root) (root : Root) (left : List Root) (fault : QueryFault) → Passes s path line roots (root ∷ left) →
     (fault ≡ RanOut) ⊎ ((file : FileFault) × (fault ≡ file_fault file) × IsFirstFault s root file) → Fails (NamedLeads path line s roots) fault
@@ -134,8 +141,8 @@ pub ok_more : {A : Type 0} (result : Result A QueryFault) (P Q : A → Type 0) �
 ok_more (Ok x) P Q more is = more x is
 ok_more (Err fault) P Q more is = tt
 
-pub finds_more : (graph : GraphValue) (spot : Spot) (numbers : TableOf ℕ) (Leads Others : Lead → Type 0) → ((found : Lead) → Leads found → Others found) → Finds graph spot numbers Leads → Finds graph spot numbers Others
-finds_more graph spot numbers Leads Others more finds = (finds.0, finds.1, more (Ok finds.0) finds.2)
+pub finds_more : (graph : GraphValue) (file : Option ℕ) (at : ℕ) (numbers : TableOf ℕ) (Leads Others : Lead → Type 0) → ((found : Lead) → Leads found → Others found) → Finds graph file at numbers Leads → Finds graph file at numbers Others
+finds_more graph file at numbers Leads Others more finds = (finds.0, finds.1, more (Ok finds.0) finds.2)
 
 pub chain_at : (s : SectionBytes) (roots : List Root) (root : Root) (position : APosition) (unit line : ℕ) (lines read : List ℕ) → position ≡ AtChain unit lines line → slice_get roots unit ≡ Some root → read ≡ lines →
     (found : Lead) → ChainLeads (Some root) read line s found → PositionLeads position s roots found
@@ -148,23 +155,3 @@ unit_missing s roots position unit line lines is missing =
 
 pub named_at : (s : SectionBytes) (roots : List Root) (position : APosition) (line : ℕ) (path read : List ℕ) → position ≡ AtNamed path line → read ≡ path → (found : Lead) → NamedLeads read line s roots found → PositionLeads position s roots found
 named_at s roots position line path read is same found leads = subst (λ (p : APosition). PositionLeads p s roots found) (sym is) (subst (λ (p : List ℕ). NamedLeads p line s roots found) same leads)
-
--- Looking for the path of a file by the number of the entry that begins it.
-
-get_later : (item : Item ℕ) (items : List (Item ℕ)) (n : ℕ) → (n ≡ 0 → ⊥) → slice_get (item ∷ items) n ≡ slice_get items (n - 1)
-get_later item items zero some = absurd (some refl)
-get_later item items (suc n) some = let less : n ≡ suc n - 1 = omega arith in ap (λ k. slice_get items k) less
-
-pub begun_later : (items : List (Item ℕ)) (item : Item ℕ) (next entries : List (Item ℕ)) (start n : ℕ) → entries ≡ item ∷ next → (n ≡ 0 → ⊥) → slice_get entries n ≡ slice_get items start → slice_get next (n - 1) ≡ slice_get items start
-begun_later items item next entries start n is some before = sym (get_later item next n some) ∙ ap (λ (es : List (Item ℕ)). slice_get es n) (sym is) ∙ before
-
-begun_named : (paths : List (List ℕ)) (items : List (Item ℕ)) (start : ℕ) (found : Option (Item ℕ)) → found ≡ slice_get items start → begun_path (option_map (renamed (path_in paths)) found) ≡ begun_path (slice_get (named paths items) start)
-begun_named paths items start found is = ap (λ (o : Option (Item ℕ)). begun_path (option_map (renamed (path_in paths)) o)) is ∙ ap begun_path (sym (slice_get-map (renamed (path_in paths)) items start))
-
-pub begun_here : (paths : List (List ℕ)) (items : List (Item ℕ)) (item : Item ℕ) (next entries : List (Item ℕ)) (start n : ℕ) → entries ≡ item ∷ next → n ≡ 0 → slice_get entries n ≡ slice_get items start →
-    begun_path (Some (renamed (path_in paths) item)) ≡ begun_path (slice_get (named paths items) start)
-begun_here paths items item next entries start n is none before =
-    begun_named paths items start (Some item) (sym (ap (λ (es : List (Item ℕ)). slice_get es n) is ∙ ap (slice_get (item ∷ next)) none) ∙ before)
-
-pub begun_nowhere : (paths : List (List ℕ)) (items entries : List (Item ℕ)) (start n : ℕ) → entries ≡ [] → slice_get entries n ≡ slice_get items start → [] ≡ begun_path (slice_get (named paths items) start)
-begun_nowhere paths items entries start n none before = begun_named paths items start None (sym (ap (λ (es : List (Item ℕ)). slice_get es n) none) ∙ before)

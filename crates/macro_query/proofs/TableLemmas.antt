@@ -11,9 +11,11 @@ use Rattle.macro_table.specs.declared.entry.Entry.{Entry}
 use Rattle.mac_base.specs.ItemLines.{path_in}
 use Rattle.macro_query.specs.declared.fault.QueryFault.{QueryFault}
 use Rattle.macro_query.specs.declared.fault.QueryFault.TheVariants.{NoMemory as RanOut}
-use Rattle.macro_query.specs.Limits.{Answers, Tells, limited}
+use Rattle.macro_query.specs.Limits.{Answers, limited}
+use Rattle.mac_base.specs.ReportText.{Tells}
 use Rattle.position_table.specs.declared.position.Position.{Position}
-use Rattle.macro_query.specs.Scopes.{Scope, IsNamed}
+use Rattle.macro_query.specs.Scopes.{IsNamed}
+use Rattle.position_table.specs.Scopes.{Scope}
 use Rattle.macro_query.specs.Queries.{LeadsTo, ScopeSays}
 use Rattle.macro_query.specs.Tables.{info_by, info_text, list_line, list_text, innermost, included_at, inclusions, defined_at, define_line, named_frame, found_text}
 use Rattle.macro_query.proofs.QueryLemmas.{Said, handed_on, answers_by}

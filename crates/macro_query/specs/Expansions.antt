@@ -9,7 +9,7 @@ use Rattle.macro_expand.specs.declared.fault.ExpandFault.{ExpandFault}
 use Rattle.macro_expand.specs.Macros.{Macros, macros_of}
 use Rattle.macro_query.specs.declared.fault.QueryFault.{QueryFault}
 use Rattle.macro_query.specs.declared.fault.QueryFault.TheVariants.{Text, Expand}
-use Rattle.macro_query.specs.Scopes.{Scope}
+use Rattle.position_table.specs.Scopes.{Scope}
 
 -- where a text is expanded, as `__LINE__` and `__FILE__` tell it (C17 6.10.8.1)
 abbrev pub here_of : Scope → Here

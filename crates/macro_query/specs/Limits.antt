@@ -1,11 +1,8 @@
--- What a query answers by what it has to say, and how a report is made whose length has a limit.
-use Rattle.std.specs.Prelude.{◌≡◌, ◌⊎◌, ◌<◌, ◌≤◌, ℕ, nat_lt, Bool, true, false, if◌then◌else◌, List, length, Result, Ok, Err}
+-- What a query answers by what it has to say.
+use Rattle.std.specs.Prelude.{◌≡◌, ◌⊎◌, ℕ, nat_lt, if◌then◌else◌, List, length, Result, Ok, Err}
+use Rattle.mac_base.specs.ReportText.{most_report}
 use Rattle.macro_query.specs.declared.fault.QueryFault.{QueryFault}
 use Rattle.macro_query.specs.declared.fault.QueryFault.TheVariants.{ReportTooLong, NoMemory as RanOut}
-
--- the most bytes that a report may have
-abbrev pub most_report : ℕ
-most_report = 1073741824
 
 -- a report that is too long is not printed
 abbrev pub limited : List ℕ → Result (List ℕ) QueryFault
@@ -19,8 +16,3 @@ within_limit (Err fault) = Err fault
 -- A call answers what there is to be said, by this relation, unless memory ran out.
 abbrev pub Answers : Result (List ℕ) QueryFault → (Result (List ℕ) QueryFault → Type 0) → Type 0
 Answers result Says = (result ≡ Err RanOut) ⊎ ((said : Result (List ℕ) QueryFault) × Says said × (result ≡ within_limit said))
-
--- The text so far is the whole report up to here, or that is too long to be kept.
-abbrev pub Tells : Bool → List ℕ → List ℕ → Type 0
-Tells false text whole = (text ≡ whole) × (length text ≤ most_report)
-Tells true text whole = most_report < length whole

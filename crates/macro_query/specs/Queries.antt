@@ -12,7 +12,8 @@ use Rattle.macro_query.specs.declared.fault.QueryFault.TheVariants.{Elf, Info, L
 use Rattle.position_table.specs.declared.position.Position.{Position}
 use Rattle.macro_query.specs.Unit.{IsReportOf, IsFirstFault}
 use Rattle.macro_query.specs.Roots.{RootsSay, DumpOf}
-use Rattle.macro_query.specs.Scopes.{Scope, PositionLeads}
+use Rattle.macro_query.specs.Scopes.{PositionLeads}
+use Rattle.position_table.specs.Scopes.{Scope}
 use Rattle.macro_query.specs.Tables.{info_text, list_text}
 use Rattle.macro_query.specs.Expansions.{TextSays}
 

@@ -1,15 +1,11 @@
 -- The report on a macro unit: a line for each entry.
-use Rattle.std.specs.Prelude.{ℕ, false, List, [], ◌++◌, codes, decimal}
-use Rattle.std.specs.Fmt.{digits}
+use Rattle.std.specs.Prelude.{ℕ, List, [], ◌++◌, codes, decimal}
 use Rattle.std.specs.List.{flat_map}
 use Rattle.unit_header.specs.declared.opcode.Opcode.{Opcode}
 use Rattle.unit_header.specs.declared.opcode.Opcode.TheVariants.{Define, Undef, StartFile, EndFile, DefineStrp, UndefStrp, Import, DefineSup, UndefSup, ImportSup, DefineStrx, UndefStrx, Other as Listed}
 use Rattle.unit_header.specs.Opcodes.{opcode_by_byte}
+use Rattle.mac_base.specs.ReportText.{hex}
 use Rattle.macro_opcodes.specs.Entry.{Operand, None, File, Text, Str, Index, Macro, SupStr, SupMacro, Other, Entry}
-
--- a number in hexadecimal
-abbrev pub hex : ℕ → List ℕ
-hex n = codes "0x" ++ digits 16 false n
 
 -- the name of an opcode, whose byte is printed where it has none (DWARF 5, 7.23)
 abbrev pub name_of : Opcode → ℕ → List ℕ

@@ -5,19 +5,19 @@ ghost use Rattle.import_graph.specs.declared.fault.FileFault.{FileFault};
 ghost use Rattle.import_graph.specs.Numbers.{named_item};
 ghost use Rattle.import_graph.specs.Graph.{named};
 ghost use Rattle.macro_query.specs.declared.fault.QueryFault.TheVariants.{NoMemory as RanOut};
-ghost use Rattle.macro_query.specs.Limits.{Answers, Tells};
+ghost use Rattle.macro_query.specs.Limits.{Answers};
+ghost use Rattle.mac_base.specs.ReportText.{Tells};
 ghost use Rattle.macro_query.specs.Roots.{file_fault, RootSays, RootsSay, DumpOf, root_line, root_lines};
 ghost use Rattle.mac_base.specs.ItemLines.{item_line, item_lines};
 ghost use Rattle.macro_query.specs.Queries.{DumpSays};
 
 use crate::fault::QueryFault;
-use crate::pieces::{push_bytes, push_number, push_text};
+use crate::finished::finished;
 use crate::roots::{graph_of, path_of, roots_of};
 use crate::sections::sections_of;
-use crate::telling::Telling;
 use import_graph::{Graph, Spliced};
 use info_roots::Root;
-use mac_base::{Bytes, NoMemory, Sections};
+use mac_base::{Bytes, NoMemory, ReportBuilder, Sections, push_bytes, push_item, push_number, push_text};
 use std::alloc::Global;
 
 /// All roots of an ELF file in their order, each with its entries, where imported units stand in their places, or the
@@ -41,44 +41,44 @@ fn dump_sections(alloc: Global, s: &Sections<'_>) -> Result<Bytes, QueryFault>
 fn dump_roots(alloc: Global, s: &Sections<'_>, roots: &[Root]) -> Result<Bytes, QueryFault>
     ensures { Answers result (DumpOf (bytes_of s.now) 0 roots.now) }
 {
-    let mut telling = Telling::new(alloc);
+    let mut report = ReportBuilder::new(alloc);
     let mut left = roots;
     let mut number = 0;
     while let Some((root, behind)) = left.split_first() {
-        add_root(alloc, &mut telling, s, number, root)?;
+        add_root(alloc, &mut report, s, number, root)?;
         left = behind;
         number += 1;
     }
-    telling.finish()
+    finished(report)
 }
 
 /// Adds the lines of a root.
 fn add_root(
     alloc: Global,
-    telling: &mut Telling,
+    report: &mut ReportBuilder,
     s: &Sections<'_>,
     number: u64,
     root: &Root,
 ) -> Result<(), QueryFault>
     ensures ok { OnOk result ((items : List (Item (List ℕ))) × RootSays (bytes_of s.now) root.now (Ok items)
-        × ((whole : List ℕ) → Tells telling.old.is_long telling.old.text.items whole → Tells telling.new.is_long telling.new.text.items (whole ++ root_lines number root.now items))) }
+        × ((whole : List ℕ) → Tells report.old.is_long report.old.text.items whole → Tells report.new.is_long report.new.text.items (whole ++ root_lines number root.now items))) }
     ensures err { IfErr result (λ fault. (fault ≡ RanOut) ⊎ ((file : FileFault) × (fault ≡ file_fault file) × RootSays (bytes_of s.now) root.now (Err file))) }
 {
     let graph = graph_of(alloc, s, root)?;
-    add_head(telling, number, root.name.as_slice())?;
-    add_entries(telling, &graph)?;
+    add_head(report, number, root.name.as_slice())?;
+    add_entries(report, &graph)?;
     Ok(())
 }
 
 /// Adds the line of a root.
-fn add_head(telling: &mut Telling, number: u64, name: &[u8]) -> Result<(), NoMemory>
-    ensures { OnOk result ((whole : List ℕ) → Tells telling.old.is_long telling.old.text.items whole → Tells telling.new.is_long telling.new.text.items (whole ++ root_line number name.now)) }
+fn add_head(report: &mut ReportBuilder, number: u64, name: &[u8]) -> Result<(), NoMemory>
+    ensures { OnOk result ((whole : List ℕ) → Tells report.old.is_long report.old.text.items whole → Tells report.new.is_long report.new.text.items (whole ++ root_line number name.now)) }
 {
-    if telling.is_long {
+    if report.is_long {
         return Ok(());
     }
-    push_head(&mut telling.text, number, name)?;
-    telling.settle();
+    push_head(&mut report.text, number, name)?;
+    report.settle();
     Ok(())
 }
 
@@ -94,27 +94,27 @@ fn push_head(text: &mut Vec<u8>, number: u64, name: &[u8]) -> Result<(), NoMemor
 }
 
 /// Adds the lines of all entries.
-fn add_entries(telling: &mut Telling, graph: &Graph<'_>) -> Result<(), NoMemory>
-    ensures { OnOk result ((whole : List ℕ) → Tells telling.old.is_long telling.old.text.items whole
-        → Tells telling.new.is_long telling.new.text.items (whole ++ item_lines (named graph.now.paths graph.now.items))) }
+fn add_entries(report: &mut ReportBuilder, graph: &Graph<'_>) -> Result<(), NoMemory>
+    ensures { OnOk result ((whole : List ℕ) → Tells report.old.is_long report.old.text.items whole
+        → Tells report.new.is_long report.new.text.items (whole ++ item_lines (named graph.now.paths graph.now.items))) }
 {
     let mut entries = graph.entries()?;
     while let Some(entry) = entries.next() {
-        add_entry(telling, graph, entry?)?;
+        add_entry(report, graph, entry?)?;
     }
     Ok(())
 }
 
 /// Adds the line of an entry.
-fn add_entry(telling: &mut Telling, graph: &Graph<'_>, entry: Spliced<'_>) -> Result<(), NoMemory>
-    ensures { OnOk result ((whole : List ℕ) → Tells telling.old.is_long telling.old.text.items whole
-        → Tells telling.new.is_long telling.new.text.items (whole ++ item_line (named_item graph.now.paths entry.entry))) }
+fn add_entry(report: &mut ReportBuilder, graph: &Graph<'_>, entry: Spliced<'_>) -> Result<(), NoMemory>
+    ensures { OnOk result ((whole : List ℕ) → Tells report.old.is_long report.old.text.items whole
+        → Tells report.new.is_long report.new.text.items (whole ++ item_line (named_item graph.now.paths entry.entry))) }
 {
-    if telling.is_long {
+    if report.is_long {
         return Ok(());
     }
-    push_entry(&mut telling.text, graph, entry)?;
-    telling.settle();
+    push_entry(&mut report.text, graph, entry)?;
+    report.settle();
     Ok(())
 }
 
@@ -123,20 +123,9 @@ fn push_entry(text: &mut Vec<u8>, graph: &Graph<'_>, entry: Spliced<'_>) -> Resu
     ensures { OnOk result (text.new.items ≡ text.old.items ++ item_line (named_item graph.now.paths entry.entry)) }
 {
     match entry {
-        Spliced::Define { line, text: words } => push_line(text, b"define", line, words),
-        Spliced::Undef { line, name } => push_line(text, b"undef", line, name),
-        Spliced::Start { line, file } => push_line(text, b"start", line, path_of(graph, file)),
+        Spliced::Define { line, text: words } => push_item(text, b"define", line, words),
+        Spliced::Undef { line, name } => push_item(text, b"undef", line, name),
+        Spliced::Start { line, file } => push_item(text, b"start", line, path_of(graph, file)),
         Spliced::End => push_bytes(text, b"end\n"),
     }
-}
-
-/// Appends a line of a verb, a number and words.
-fn push_line(text: &mut Vec<u8>, verb: &[u8], line: u64, words: &[u8]) -> Result<(), NoMemory>
-    ensures { OnOk result (text.new.items ≡ text.old.items ++ (verb.now ++ codes " " ++ decimal line ++ codes " " ++ words.now ++ codes "\n")) }
-{
-    push_bytes(text, verb)?;
-    push_number(text, line)?;
-    push_text(text, words)?;
-    text.push(b'\n')?;
-    Ok(())
 }

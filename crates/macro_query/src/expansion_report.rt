@@ -1,17 +1,16 @@
-ghost use Rattle.std.specs.Prelude.{◌≡◌, slice_get, IfOk, Ok};
-ghost use Rattle.import_graph.specs.Graph.{named};
+ghost use Rattle.std.specs.Prelude.{◌≡◌, IfOk, Ok};
 ghost use Rattle.macro_table.specs.Texts.{tokens_of};
 ghost use Rattle.macro_expand.specs.Macros.{macros_of};
 ghost use Rattle.macro_expand.specs.Rules.{ExpandsTo, ExpandsOnceTo};
 ghost use Rattle.macro_query.specs.Limits.{Answers};
-ghost use Rattle.macro_query.specs.Scopes.{begun_path};
+ghost use Rattle.macro_query.specs.Scopes.{path_of_file};
 ghost use Rattle.macro_query.specs.Expansions.{ByTokens, PrintsLine};
 ghost use Rattle.macro_query.specs.Queries.{ExpandSays, OnceSays};
 
 use crate::fault::QueryFault;
-use crate::position::{Found, begun_path, find};
-use crate::telling::Telling;
-use mac_base::{Bytes, NoMemory};
+use crate::finished::finished;
+use crate::position::{Found, find, path_of_file};
+use mac_base::{Bytes, NoMemory, ReportBuilder};
 use macro_expand::{Here, expand, expand_once};
 use macro_table::Table;
 use position_table::Position;
@@ -50,11 +49,11 @@ pub fn once_at(
 
 /// The line and the innermost file of a position.
 fn here_of(alloc: Global, found: &Found<'_>) -> Result<Here, NoMemory>
-    ensures { IfOk result (λ here. (here.line ≡ found.now.spot.line) × (here.file ≡ begun_path (slice_get (named found.now.graph.paths found.now.graph.items) found.now.spot.start))) }
+    ensures { IfOk result (λ here. (here.line ≡ found.now.line) × (here.file ≡ path_of_file found.now.graph.paths found.now.file)) }
 {
     Ok(Here {
-        line: u64::from(found.spot.line),
-        file: Bytes::from_slice(alloc, begun_path(&found.graph, found.spot.start)?)?,
+        line: u64::from(found.line),
+        file: Bytes::from_slice(alloc, path_of_file(&found.graph, found.file))?,
     })
 }
 
@@ -80,9 +79,9 @@ fn once_text(alloc: Global, table: &Table, here: &Here, text: &[u8]) -> Result<B
 fn line_of(alloc: Global, tokens: &Tokens) -> Result<Bytes, QueryFault>
     ensures { Answers result (PrintsLine (Ok tokens.now)) }
 {
-    let mut telling = Telling::new(alloc);
-    telling.text = print_tokens(alloc, tokens)?.into_vec()?;
-    telling.text.push(b'\n')?;
-    telling.settle();
-    telling.finish()
+    let mut report = ReportBuilder::new(alloc);
+    report.text = print_tokens(alloc, tokens)?.into_vec()?;
+    report.text.push(b'\n')?;
+    report.settle();
+    finished(report)
 }

@@ -4,22 +4,19 @@
 mod dump_report;
 mod expansion_report;
 mod fault;
-mod hexadecimal;
+mod finished;
 mod laws;
-mod pieces;
 mod position;
 mod roots;
 mod sections;
 mod strings;
 mod table_report;
-mod telling;
 mod unit_lines;
 mod unit_report;
 
 pub use dump_report::dump;
 pub use expansion_report::{expand_at, once_at};
 pub use fault::QueryFault;
-pub use hexadecimal::hex_digits;
 pub use laws::queries_have_one_answer;
 pub use table_report::{info, list};
 pub use unit_report::{raw, unit};

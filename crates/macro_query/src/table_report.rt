@@ -4,17 +4,17 @@ ghost use Rattle.std.specs.FinMap as finite;
 ghost use Rattle.macro_table.specs.Tables.{entry_value, renamed_value};
 ghost use Rattle.mac_base.specs.ItemLines.{path_in};
 ghost use Rattle.macro_query.specs.declared.fault.QueryFault.TheVariants.{NoMemory as RanOut};
-ghost use Rattle.macro_query.specs.Limits.{Answers, Tells, limited};
+ghost use Rattle.macro_query.specs.Limits.{Answers, limited};
+ghost use Rattle.mac_base.specs.ReportText.{Tells};
 ghost use Rattle.macro_query.specs.Tables.{info_by, list_line, list_text, define_line, innermost, inclusions, named_frame, found_text};
 ghost use Rattle.macro_query.specs.Queries.{InfoSays, ListSays};
 
 use crate::fault::QueryFault;
-use crate::pieces::{push_bytes, push_decimal};
+use crate::finished::finished;
 use crate::position::find;
 use crate::roots::path_of;
-use crate::telling::Telling;
 use import_graph::Graph;
-use mac_base::{Bytes, Frame, NoMemory};
+use mac_base::{Bytes, Frame, NoMemory, ReportBuilder, push_bytes, push_decimal};
 use macro_table::{Entry, Table};
 use position_table::Position;
 use std::alloc::Global;
@@ -43,10 +43,10 @@ fn info_of(
 ) -> Result<Bytes, QueryFault>
     ensures { (result ≡ Err RanOut) ⊎ (result ≡ limited (info_by name.now (option_map (renamed_value (path_in graph.now.paths)) (finite.get table.now name.now)))) }
 {
-    let mut telling = Telling::new(alloc);
-    push_info(&mut telling.text, graph, name, table.get(name))?;
-    telling.settle();
-    telling.finish()
+    let mut report = ReportBuilder::new(alloc);
+    push_info(&mut report.text, graph, name, table.get(name))?;
+    report.settle();
+    finished(report)
 }
 
 /// All definitions that hold at a position of an ELF file, in the order of the bytes of their names, or the first fault in
@@ -62,28 +62,28 @@ pub fn list(alloc: Global, file: &[u8], position: &Position) -> Result<Bytes, Qu
 fn list_of(alloc: Global, table: &Table) -> Result<Bytes, QueryFault>
     ensures { (result ≡ Err RanOut) ⊎ (result ≡ limited (list_text table.now)) }
 {
-    let mut telling = Telling::new(alloc);
+    let mut report = ReportBuilder::new(alloc);
     let names = table.names()?;
     let mut left = names.as_slice();
     while let Some((name, behind)) = left.split_first() {
-        add_definition(&mut telling, table.get(name.as_slice()))?;
+        add_definition(&mut report, table.get(name.as_slice()))?;
         left = behind;
     }
-    telling.finish()
+    finished(report)
 }
 
 /// Adds the line of a definition, if there is one.
-fn add_definition(telling: &mut Telling, entry: Option<&Entry>) -> Result<(), NoMemory>
-    ensures { OnOk result ((whole : List ℕ) → Tells telling.old.is_long telling.old.text.items whole → Tells telling.new.is_long telling.new.text.items (whole ++ list_line (option_map entry_value (option_copied entry.entry)))) }
+fn add_definition(report: &mut ReportBuilder, entry: Option<&Entry>) -> Result<(), NoMemory>
+    ensures { OnOk result ((whole : List ℕ) → Tells report.old.is_long report.old.text.items whole → Tells report.new.is_long report.new.text.items (whole ++ list_line (option_map entry_value (option_copied entry.entry)))) }
 {
     let Some(entry) = entry else {
         return Ok(());
     };
-    if telling.is_long {
+    if report.is_long {
         return Ok(());
     }
-    push_definition(&mut telling.text, entry.text.as_slice())?;
-    telling.settle();
+    push_definition(&mut report.text, entry.text.as_slice())?;
+    report.settle();
     Ok(())
 }
 

@@ -1,11 +1,10 @@
 ghost use Rattle.std.specs.Prelude.{◌≡◌, ◌++◌, OnOk, codes, decimal};
 ghost use Rattle.unit_header.specs.Opcodes.{opcode_by_byte};
 ghost use Rattle.macro_opcodes.specs.Entry.{entry_of, operand_of};
-ghost use Rattle.macro_query.specs.UnitLines.{hex, name_of, head_of, tail_of, line_of};
+ghost use Rattle.macro_query.specs.UnitLines.{name_of, head_of, tail_of, line_of};
+ghost use Rattle.mac_base.specs.ReportText.{hex};
 
-use crate::hexadecimal::push_hex;
-use crate::pieces::{push_bytes, push_number, push_offset, push_text};
-use mac_base::NoMemory;
+use mac_base::{NoMemory, push_bytes, push_hex, push_number, push_offset, push_text};
 use macro_opcodes::{Operand, RawEntry};
 use unit_header::Opcode;
 

@@ -6,15 +6,16 @@ ghost use Rattle.unit_header.specs.declared.fault.UnitFault.{UnitFault};
 ghost use Rattle.macro_query.specs.declared.fault.QueryFault.TheVariants.{Unit as BadUnit, NoMemory as RanOut};
 ghost use Rattle.macro_query.specs.UnitLines.{line_of};
 ghost use Rattle.macro_query.specs.Unit.{shown};
-ghost use Rattle.macro_query.specs.Limits.{Answers, Tells};
+ghost use Rattle.macro_query.specs.Limits.{Answers};
+ghost use Rattle.mac_base.specs.ReportText.{Tells};
 ghost use Rattle.macro_query.specs.Queries.{UnitSays, SectionSays, RawSays, UnitAtSays};
 
 use crate::fault::QueryFault;
+use crate::finished::finished;
 use crate::sections::sections_of;
 use crate::strings::{StringSection, show, test};
-use crate::telling::Telling;
 use crate::unit_lines::push_line;
-use mac_base::{Bytes, Cursor, Sections, Steps};
+use mac_base::{Bytes, Cursor, ReportBuilder, Sections, Steps};
 use macro_opcodes::{RawEntry, read_entry};
 use std::alloc::Global;
 use std::marker::Brand;
@@ -81,30 +82,30 @@ fn report_of<L: Ledger>(
     let mut steps = Steps::<L>::new(blank);
     let mut cursor = Cursor::new(section, offset);
     let header = read_header(&mut cursor)?;
-    let mut telling = Telling::new(alloc);
+    let mut report = ReportBuilder::new(alloc);
     while let Some(entry) = read_entry(&mut cursor, &header, &mut steps)? {
-        add(&mut telling, strs, entry)?;
+        add(&mut report, strs, entry)?;
     }
-    telling.finish()
+    finished(report)
 }
 
 /// Adds the line of an entry, with its string where strings are looked up. Where the report is too long the entry is only
 /// tested.
 fn add<'a>(
-    telling: &mut Telling,
+    report: &mut ReportBuilder,
     strs: Option<&StringSection<'a>>,
     entry: RawEntry<'a>,
 ) -> Result<(), QueryFault>
     ensures told { OnOk result ((line : Entry) × (shown (option_map (λ s. s.now.bytes.now) strs.entry) (entry_of entry.entry) ≡ Ok line)
-        × ((whole : List ℕ) → Tells telling.old.is_long telling.old.text.items whole → Tells telling.new.is_long telling.new.text.items (whole ++ line_of line))) }
+        × ((whole : List ℕ) → Tells report.old.is_long report.old.text.items whole → Tells report.new.is_long report.new.text.items (whole ++ line_of line))) }
     ensures stop { IfErr result (λ stop. (stop ≡ RanOut) ⊎ ((fault : UnitFault) × (stop ≡ BadUnit fault) × (shown (option_map (λ s. s.now.bytes.now) strs.entry) (entry_of entry.entry) ≡ Err fault))) }
 {
-    if telling.is_long {
+    if report.is_long {
         test(strs, entry)?;
         return Ok(());
     }
     let line = show(strs, entry)?;
-    push_line(&mut telling.text, &line)?;
-    telling.settle();
+    push_line(&mut report.text, &line)?;
+    report.settle();
     Ok(())
 }

@@ -1,6 +1,6 @@
 -- The first entry of a list that passes a test, found one entry after another.
 use Rattle.std.proofs.Common.{◌≡◌, ℕ, zero, suc, ◌+◌, ◌-◌, ◌<◌, ◌≤◌, Bool, true, false, cond, eqb, ◌&&◌, List, [], ◌∷◌, length, drop, get_or, Option, Some, None, Result, Ok, Err, refl, ap, sym, subst, ◌∙◌, arith, add-one, zero-add}
-use Rattle.std.specs.Prelude.{position, IfSome}
+use Rattle.std.specs.Prelude.{position, slice_get, IfSome}
 use Rattle.std.proofs.lemmas.List.{drop_more, drop-drop, length-drop}
 use Rattle.std.specs.Option.{option_map, option_and_then}
 use Rattle.std.specs.List.{position_from}
@@ -13,6 +13,7 @@ use Rattle.import_graph.specs.Graph.{NextSays}
 use Rattle.import_graph.specs.Nodes.{AreNumbered}
 use Rattle.mac_base.specs.Items.{Item, Define, Undef, Start, End, is_start, starts_at, depth_behind, first_inside}
 use Rattle.macro_table.specs.FileTable.{levels}
+use Rattle.position_table.specs.Scopes.{begun_file}
 
 -- the next entry of a list of which n are passed
 pub drop_next : {A : Type 0} (n : ℕ) (all : List A) (x : A) (rest : List A) → drop n all ≡ x ∷ rest → (drop (n + 1) all ≡ rest) × (n < length all)
@@ -124,3 +125,19 @@ numbered_later n (Define line text) items are = are
 numbered_later n (Undef line name) items are = are
 numbered_later n (Start line file) items are = are.1
 numbered_later n End items are = are
+
+-- The entry of a number, found one entry after another.
+
+get_later : {A : Type 0} (x : A) (xs : List A) (n : ℕ) → (n ≡ 0 → ⊥) → slice_get (x ∷ xs) n ≡ slice_get xs (n - 1)
+get_later x xs zero some = absurd (some refl)
+get_later x xs (suc n) some = let less : n ≡ suc n - 1 = omega arith in ap (λ k. slice_get xs k) less
+
+pub at_later : {A : Type 0} (x : A) (next entries all : List A) (start n : ℕ) → entries ≡ x ∷ next → (n ≡ 0 → ⊥) → slice_get entries n ≡ slice_get all start → slice_get next (n - 1) ≡ slice_get all start
+at_later {A} x next entries all start n is some before = sym (get_later x next n some) ∙ ap (λ (es : List A). slice_get es n) (sym is) ∙ before
+
+pub begun_here : {P : Type 0} (item : Item P) (next entries all : List (Item P)) (start n : ℕ) → entries ≡ item ∷ next → n ≡ 0 → slice_get entries n ≡ slice_get all start → begun_file (Some item) ≡ begun_file (slice_get all start)
+begun_here {P} item next entries all start n is none before =
+    ap (λ (o : Option (Item P)). begun_file o) (sym (ap (λ (es : List (Item P)). slice_get es n) is ∙ ap (slice_get (item ∷ next)) none) ∙ before)
+
+pub begun_nowhere : {P : Type 0} (entries all : List (Item P)) (start n : ℕ) → entries ≡ [] → slice_get entries n ≡ slice_get all start → None ≡ begun_file (slice_get all start)
+begun_nowhere {P} entries all start n none before = ap (λ (o : Option (Item P)). begun_file o) (sym (ap (λ (es : List (Item P)). slice_get es n) none) ∙ before)

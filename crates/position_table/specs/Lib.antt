@@ -4,3 +4,4 @@ pub mod Standing
 pub mod Answers
 pub mod Paths
 pub mod Laws
+pub mod Scopes

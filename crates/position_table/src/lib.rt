@@ -23,7 +23,7 @@ pub use locate::locate_chain;
 pub use parse::parse_position;
 pub use position::Position;
 pub use spot::Spot;
-pub use table::table_at;
+pub use table::{FileScope, scope_at, table_at};
 
 #[cfg(test)]
 mod tests;

@@ -1,5 +1,5 @@
 use Rattle.std.proofs.Common.{◌≡◌, ◌≤◌, ◌++◌, drop, vec_len}
-use Rattle.macro_query.specs.Limits.{most_report}
+use Rattle.mac_base.specs.ReportText.{most_report}
 use Rattle.dwmac_run.specs.Units.{event_lines}
 use Rattle.dwmac_run.proofs.units.text_of.Given as goal
 

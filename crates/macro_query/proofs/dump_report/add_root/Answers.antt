@@ -5,5 +5,5 @@ use Rattle.macro_query.proofs.dump_report.add_root.Goals as goal
 
 pub returns-clause-ok : goal.returns-clause-ok
 returns-clause-ok c =
-    let head = subst (λ (name : List ℕ). Heads c.args.number name c.args.telling.now.is_long c.add_head.new.telling.is_long c.args.telling.now.text.items c.add_head.new.telling.text.items) c.as_slice.ensures c.in_ok-add_head.ensures in
+    let head = subst (λ (name : List ℕ). Heads c.args.number name c.args.report.now.is_long c.add_head.new.report.is_long c.args.report.now.text.items c.add_head.new.report.text.items) c.as_slice.ensures c.in_ok-add_head.ensures in
     root_told (bytes_of c.args.s.now) c.args.root.now c.args.number c.in_ok-graph.graph _ _ _ _ _ _ c.in_ok-graph.ensures.ok head c.in_ok-add_entries.ensures

@@ -6,7 +6,7 @@ use Rattle.macro_query.proofs.DumpLemmas.{Reaches, reaches_first, reaches_more, 
 use Rattle.macro_query.proofs.dump_report.dump_roots.Goals as goal
 
 pub loop-root-init : goal.loop-root-init
-loop-root-init c = ([], c.new-telling.ensures, omega arith, reaches_first (bytes_of c.args.s.now) c.args.roots.now)
+loop-root-init c = ([], c.new-report.ensures, omega arith, reaches_first (bytes_of c.args.s.now) c.args.roots.now)
 
 pub loop-root-preserved : goal.loop-root-preserved
 loop-root-preserved c =
@@ -30,4 +30,4 @@ pub returns : goal.returns
 returns c =
     let before = c.loop-root.invariant in
     let reaches = subst (λ (roots : List Root). Reaches (bytes_of c.args.s.now) c.args.roots.now before.0 c.loop-root.number roots) (none_left c.loop-root.left.now c.in_default.ensures.cases) before.3 in
-    dump_ends (bytes_of c.args.s.now) c.args.roots.now before.0 c.loop-root.number c.finish.result reaches (c.finish.ensures before.0 before.1)
+    dump_ends (bytes_of c.args.s.now) c.args.roots.now before.0 c.loop-root.number c.finished.result reaches (c.finished.ensures before.0 before.1)

@@ -11,4 +11,4 @@ pub returns : goal.returns
 returns c =
     let found = c.in_ok-found.ensures.ok in
     scope_says c.expand_text.result (TextSays ExpandsTo c.args.text.now) c.args.position.now c.args.file.now found.0 found.2
-    (in_scope c.expand_text.result ExpandsTo c.args.text.now c.in_ok-found.found.graph c.in_ok-found.found.spot c.in_ok-found.found.table c.in_ok-here.here found.0 found.1 c.in_ok-here.ensures c.expand_text.ensures)
+    (in_scope c.expand_text.result ExpandsTo c.args.text.now c.in_ok-found.found.graph c.in_ok-found.found.file c.in_ok-found.found.line c.in_ok-found.found.table c.in_ok-here.here found.0 found.1 c.in_ok-here.ensures c.expand_text.ensures)

@@ -13,7 +13,7 @@ returns-in_err-s-clause-err c =
 pub returns-clause-ok : goal.returns-clause-ok
 returns-clause-ok c =
     let leads = RootsSay (PositionLeads c.args.position.now) in
-    ok_more c.find_in.result _ _ (λ found. finds_more found.graph found.spot found.table (leads (bytes_of c.in_ok-s.s)) (LeadsTo c.args.position.now c.args.file.now)
+    ok_more c.find_in.result _ _ (λ found. finds_more found.graph found.file found.line found.table (leads (bytes_of c.in_ok-s.s)) (LeadsTo c.args.position.now c.args.file.now)
     (sections_pass leads c.args.file.now (bytes_of c.in_ok-s.s) c.in_ok-s.ensures.ok)) c.find_in.ensures.ok
 
 pub returns-clause-err : goal.returns-clause-err

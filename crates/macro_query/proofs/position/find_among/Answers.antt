@@ -12,7 +12,7 @@ there c = sym c.in-Some.ensures
 pub returns-in-Some-clause-ok : goal.returns-in-Some-clause-ok
 returns-in-Some-clause-ok c =
     let s = bytes_of c.args.s.now in
-    ok_more c.find_chain.result _ _ (λ found. finds_more found.graph found.spot found.table (ChainLeads (Some c.in-Some.root.now) c.as_slice.result.now c.in-Chain.line s) (PositionLeads c.args.position.now s c.args.roots.now)
+    ok_more c.find_chain.result _ _ (λ found. finds_more found.graph found.file found.line found.table (ChainLeads (Some c.in-Some.root.now) c.as_slice.result.now c.in-Chain.line s) (PositionLeads c.args.position.now s c.args.roots.now)
     (chain_at s c.args.roots.now c.in-Some.root.now c.args.position.now c.in-Chain.unit c.in-Chain.line c.in-Chain.lines c.as_slice.result.now c.in-Chain.is (there c) c.as_slice.ensures)) c.find_chain.ensures.ok
 
 pub returns-in-Some-clause-err : goal.returns-in-Some-clause-err
@@ -30,7 +30,7 @@ returns-in-None-clause-err c = inr (unit_missing (bytes_of c.args.s.now) c.args.
 pub returns-in-Named-clause-ok : goal.returns-in-Named-clause-ok
 returns-in-Named-clause-ok c =
     let s = bytes_of c.args.s.now in
-    ok_more c.find_named.result _ _ (λ found. finds_more found.graph found.spot found.table (NamedLeads c.as_slice-in-Named.result.now c.in-Named.line s c.args.roots.now) (PositionLeads c.args.position.now s c.args.roots.now)
+    ok_more c.find_named.result _ _ (λ found. finds_more found.graph found.file found.line found.table (NamedLeads c.as_slice-in-Named.result.now c.in-Named.line s c.args.roots.now) (PositionLeads c.args.position.now s c.args.roots.now)
     (named_at s c.args.roots.now c.args.position.now c.in-Named.line c.in-Named.path c.as_slice-in-Named.result.now c.in-Named.is c.as_slice-in-Named.ensures)) c.find_named.ensures.ok
 
 pub returns-in-Named-clause-err : goal.returns-in-Named-clause-err

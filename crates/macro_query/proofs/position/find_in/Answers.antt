@@ -14,7 +14,7 @@ pub returns-clause-ok : goal.returns-clause-ok
 returns-clause-ok c =
     let s = bytes_of c.args.s.now in
     let leads = PositionLeads c.args.position.now in
-    ok_more c.find_among.result _ _ (λ found. finds_more found.graph found.spot found.table (leads s c.as_slice.result.now) (RootsSay leads s)
+    ok_more c.find_among.result _ _ (λ found. finds_more found.graph found.file found.line found.table (leads s c.as_slice.result.now) (RootsSay leads s)
     (roots_pass leads s c.in_ok-roots.roots.items c.as_slice.result.now c.in_ok-roots.ensures.ok c.as_slice.ensures.value)) c.find_among.ensures.ok
 
 pub returns-clause-err : goal.returns-clause-err

@@ -3,7 +3,7 @@ use Rattle.macro_query.proofs.TableLemmas.{Listed}
 use Rattle.macro_query.proofs.table_report.list_of.Given as goal
 
 abbrev pub invariant-loop-name : goal.invariant-loop-name
-invariant-loop-name l = Listed l.table l.telling.is_long l.telling.text.items l.left
+invariant-loop-name l = Listed l.table l.report.is_long l.report.text.items l.left
 
 abbrev pub decreases-loop-name : goal.decreases-loop-name
 decreases-loop-name l = length l.left
