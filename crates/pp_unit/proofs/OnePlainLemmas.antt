@@ -16,7 +16,7 @@ use Rattle.macro_expand.specs.Marked.{Names, Marked, fresh, is_hash, is_paste, o
 use Rattle.macro_expand.specs.Calls.{Waiting, paste_follows}
 use Rattle.macro_expand.specs.Heads.{Head, Finished, Stays, Fails, Replaced, Call}
 use Rattle.macro_expand.specs.Expansion.{Answer, after, tokens_of}
-use Rattle.macro_expand.specs.Substituted.{Argument, Piece, Word, Gap, Joins, spelled, is_str, string_of, front, word_of, is_behind_hash, with_else, find_argument, token_put, put_in, joined_as, joined, join, is_joins, pasted_on, pasted, substituted}
+use Rattle.macro_expand.specs.Substituted.{Argument, Piece, Word, Gap, Joins, spelled, is_str, string_of, front, word_of, with_else, find_argument, token_put, put_in, joined_as, joined, join, is_joins, pasted_on, pasted, substituted}
 use Rattle.macro_expand.specs.Rules.{HasHead, Empty, Kept, Line, File, Unknown, Bad, Object, Uncalled, Open, Count, Called, Expands, Ends, Keeps, Refuses, Puts, Replaces, ArgumentFails, ListFails, TooMuch, Rescans, Arguments, NoMore, Fault, LaterFault, Next, Lone, Scanned, ExpandsTo}
 use Rattle.pp_directives.specs.declared.fault.ExprFault.{ExprFault}
 use Rattle.pp_directives.specs.declared.fault.ExprFault.TheVariants.{Syntax, NoMemory as ExprRanOut}
@@ -67,8 +67,8 @@ plain_word macro Else next None t = tt
 plain_token : (macro : List ℕ) (calls : Bool) (args : List Argument) (b : Before) (next : Bool) (t : Token) → PlainList (token_put macro calls args b next t)
 plain_token macro calls args b next t =
     let word : Result (List Piece × Before) ExpandFault = word_of macro b next (find_argument args t) t >>= (λ pieces. Ok (with_else pieces)) in
-    cond_good PlainExpand (is_paste t) (Ok (Joins t ∷ [], Paste)) (cond (calls && is_hash t && not (is_behind_hash b)) (Ok ([], Hash t.space)) word) tt
-    (cond_good PlainExpand (calls && is_hash t && not (is_behind_hash b)) (Ok ([], Hash t.space)) word tt
+    cond_good PlainExpand (is_paste t) (Ok (Joins t ∷ [], Paste)) (cond (calls && is_hash t) (Ok ([], Hash t.space)) word) tt
+    (cond_good PlainExpand (calls && is_hash t) (Ok ([], Hash t.space)) word tt
     (bound (word_of macro b next (find_argument args t) t) (λ pieces. Ok (with_else pieces)) (plain_word macro b next (find_argument args t) t) (λ pieces. tt)))
 
 plain_put : (macro : List ℕ) (calls : Bool) (args : List Argument) (b : Before) (ts : List Token) → PlainList (put_in macro calls args b ts)

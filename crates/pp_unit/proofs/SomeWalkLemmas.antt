@@ -1,11 +1,11 @@
 -- The walk of a unit over any stores has an answer on the files: the one where each store that tells nothing has no file.
-use Rattle.std.proofs.Common.{◌≡◌, ℕ, zero, suc, ◌<◌, List, [], ◌∷◌, length, Option, None, Some, Result, Ok, Err, refl, ap, subst, sym}
+use Rattle.std.proofs.Common.{◌≡◌, ℕ, zero, suc, ◌<◌, List, [], ◌∷◌, length, Option, None, Some, Result, Ok, Err, refl, ap, subst, sym, ◌∙◌}
 use Rattle.std.specs.List.{All}
 use Rattle.std.proofs.lemmas.List.Elements.{All-nil, All-cons}
 use Rattle.std.specs.FinMap as map_of
 use Rattle.std.specs.Ordering.{nat_cmp}
 use Rattle.std.specs.Cmp.Lexicographic.{slice_cmp}
-use Rattle.mac_io.specs.Files.{Files, IsFileAt}
+use Rattle.mac_io.specs.Files.{Files, AreBytes, IsFileAt}
 use Rattle.mac_io.specs.Search.{told_by, label_of}
 use Rattle.pp_unit.specs.declared.fault.PpFault.{PpFault}
 use Rattle.pp_unit.specs.Seen.{Marked}
@@ -26,7 +26,7 @@ filled [] = []
 filled (store ∷ stores) = (store.0, Some (filled_files store.1)) ∷ filled stores
 
 file_at : (told : Option Files) (name : List ℕ) (file : Option (List ℕ)) → IsFileAt (Some (filled_files told)) name file → IsFileAt told name file
-file_at None name file at = tt
+file_at None name file at = subst AreBytes (sym (map_of.get-empty (slice_cmp nat_cmp) name) ∙ at) tt
 file_at (Some files) name file at = at
 
 filled_file : (stores : Stores) (store : ℕ) (name : List ℕ) (file : Option (List ℕ)) → IsFileAt (told_by (filled stores) store) name file → IsFileAt (told_by stores store) name file

@@ -2,7 +2,7 @@ ghost use Rattle.std.specs.Prelude.{◌<◌, length, None};
 
 use crate::{Command, Commands, PpFault, UnitSpec, preprocess};
 use mac_base::{Bytes, Event, NoMemory, Paths};
-use mac_io::{Fetched, HeaderStore, Headers, MapStore, SearchPath, are_distinct};
+use mac_io::{Fetched, HeaderStore, Headers, MapStore, SearchPath, are_distinct, each_is_a_byte};
 use std::alloc::Global;
 use std::process::Abort;
 use std::test::Fail;
@@ -50,6 +50,7 @@ impl HeaderStore for Changing {
         let Some(file) = self.left.pop() else {
             return Fetched::Absent;
         };
+        each_is_a_byte(file.as_slice());
         if file.len() > limit {
             return Fetched::TooLong;
         }
