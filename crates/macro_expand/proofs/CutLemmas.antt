@@ -2,10 +2,10 @@
 use Rattle.std.proofs.Common.{◌≡◌, ℕ, zero, suc, ◌+◌, ◌-◌, ◌<◌, ◌≤◌, true, List, [], ◌∷◌, ◌++◌, map, take, drop, set, get_or, length, Option, Some, None, inl, inr, refl, sym, ap, ◌∙◌, subst, arith, append_assoc}
 use Rattle.std.proofs.lemmas.List.{length-drop, length-take-le, take-append-drop, take_more, take-set, drop-set}
 use Rattle.std.proofs.Math.Seq.{drop-cons}
-use Rattle.macro_expand.specs.declared.part.Part.TheVariants.{Opens}
-use Rattle.macro_expand.specs.declared.slots.Slot.{Slot}
-use Rattle.macro_expand.specs.declared.slots.Slot.TheVariants as slot
-use Rattle.macro_expand.specs.Slots.{Place, Stands, place_of, place_part, places, Opened, stands_too, opened, passed, turned, leap, closes_at, StaysWithin, IsRight, AreRight, AllRight}
+use Rattle.macro_expand.specs.declared.delimiter.Delimiter.TheVariants.{Opens}
+use Rattle.macro_expand.specs.declared.rescan.slots.Slot.{Slot}
+use Rattle.macro_expand.specs.declared.rescan.slots.Slot.TheVariants as slot
+use Rattle.macro_expand.specs.Slots.{Place, Stands, place_of, place_delimiter, places, Opened, stands_too, opened, passed, turned, leap, closes_at, StaysWithin, IsRight, AreRight, AllRight}
 use Rattle.macro_expand.proofs.SlotLemmas.{start, word_there}
 use Rattle.macro_expand.proofs.LeapLemmas.{map_turned, map_both, map_take, map_drop, stands_over, opens_by, opened_over, turned_both, turned_long, turned_top, turned_take, take_front, right_join, right_drop, right_group, within_long}
 
@@ -67,10 +67,10 @@ module _ (xs : List Slot) (i at : ℕ) (d s : Slot) (a : at ≡ i + 1) (h : i < 
 
   -- a group is passed
   module _ (j : ℕ) (q : j ≡ leap s) (n : j ≡ 0 → ⊥) where
-    group : (place_part (place_of s) ≡ Some Opens) × (closes_at j (map place_of (turned (take i xs))) 0 ≡ true) × StaysWithin j (turned (take i xs))
+    group : (place_delimiter (place_of s) ≡ Some Opens) × (closes_at j (map place_of (turned (take i xs))) 0 ≡ true) × StaysWithin j (turned (take i xs))
     group = go next_right.0
       where
-        go : IsRight s (turned (take i xs)) → (place_part (place_of s) ≡ Some Opens) × (closes_at j (map place_of (turned (take i xs))) 0 ≡ true) × StaysWithin j (turned (take i xs))
+        go : IsRight s (turned (take i xs)) → (place_delimiter (place_of s) ≡ Some Opens) × (closes_at j (map place_of (turned (take i xs))) 0 ≡ true) × StaysWithin j (turned (take i xs))
         go (inl z) = absurd (n (q ∙ z))
         go (inr r) = (r.0, subst (λ k. closes_at k (map place_of (turned (take i xs))) 0 ≡ true) (sym q) r.1, subst (λ k. StaysWithin k (turned (take i xs))) (sym q) r.2)
 

@@ -38,7 +38,7 @@ other = token Other
 abbrev spaced_token : Token → Token
 spaced_token t = record { kind = t.kind; text = t.text; space = true }
 
--- the texts of tokens, with a space where the mark stands
+-- the texts of tokens, with a space where the mark is
 abbrev written : List Token → List ℕ
 written [] = []
 written (t ∷ ts) = (if t.space then 32 ∷ [] else []) ++ t.text ++ written ts

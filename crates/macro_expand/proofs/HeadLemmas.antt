@@ -3,17 +3,17 @@ use Rattle.std.proofs.Common.{◌≡◌, inl, inr, ℕ, Bool, true, false, List,
 use Rattle.std.proofs.lemmas.Bool.{cond-true, cond-false}
 use Rattle.macro_table.specs.Definitions.{DefValue}
 use Rattle.macro_expand.specs.declared.here.Here.{Here}
-use Rattle.macro_expand.specs.Marked.{Marked, part_of}
+use Rattle.macro_expand.specs.Marked.{Marked, delimiter_of}
 use Rattle.macro_expand.specs.Macros.{Macros}
 use Rattle.std.specs.Option.{option_map, is_none}
-use Rattle.macro_expand.specs.declared.known.Known.{Known}
-use Rattle.macro_expand.specs.Known.{def_value, IsMeaning}
+use Rattle.macro_expand.specs.declared.rescan.parsed_macro.ParsedMacro.{ParsedMacro}
+use Rattle.macro_expand.specs.ParsedMacros.{def_value, IsMeaning}
 use Rattle.macro_expand.specs.Calls.{to_first, first_list, other_lists, closed}
 use Rattle.macro_expand.specs.Taking.{IsHead, named_head}
 use Rattle.macro_expand.specs.Slots.{Takes}
 use Rattle.macro_expand.specs.declared.fault.ExpandFault.{ExpandFault}
-use Rattle.macro_expand.specs.declared.head.NextHead.{NextHead}
-use Rattle.macro_expand.specs.declared.head.NextHead.TheVariants as next
+use Rattle.macro_expand.specs.declared.rescan.head.NextHead.{NextHead}
+use Rattle.macro_expand.specs.declared.rescan.head.NextHead.TheVariants as next
 use Rattle.macro_expand.specs.Heads.{Head, Stays, is_opens, opens, is_kept, call_head, macro_head, name_head, seen_head, head_of}
 use Rattle.macro_expand.proofs.SlotLemmas.{first_more, others_same}
 
@@ -30,15 +30,15 @@ unkept_is macros here m old new e k = ap (head_of macros here) (ap first_list e 
 pub others_are : (m : Marked) (old new : List (List Marked)) → old ≡ to_first m new → other_lists new ≡ other_lists old
 others_are m old new e = sym (ap other_lists e ∙ others_same m new)
 
-pub found_is : (macros : Macros) (k : Option Known) (known : Known) (def : _) (name q : List ℕ) → k ≡ Some known → known.def ≡ Some def → IsMeaning k name (macros name) → name ≡ q → macros q ≡ Some (Some def.value)
+pub found_is : (macros : Macros) (k : Option ParsedMacro) (known : ParsedMacro) (def : _) (name q : List ℕ) → k ≡ Some known → known.def ≡ Some def → IsMeaning k name (macros name) → name ≡ q → macros q ≡ Some (Some def.value)
 found_is macros k known def name q e d m n =
-    ap macros (sym n) ∙ (subst (λ (o : Option Known). IsMeaning o name (macros name)) e m).0 ∙ ap (λ o. Some (option_map def_value o)) d
+    ap macros (sym n) ∙ (subst (λ (o : Option ParsedMacro). IsMeaning o name (macros name)) e m).0 ∙ ap (λ o. Some (option_map def_value o)) d
 
 -- a name that the token does not hide
 pub named_seen : (macros : Macros) (here : Here) (m : Marked) (rest : List Marked) → m.hides m.token.text ≡ false → named_head macros here m rest ≡ seen_head macros here m rest
 named_seen macros here m rest e = cond-false (m.hides m.token.text) (Stays m rest) (seen_head macros here m rest) e
 
--- the same head, where the lists behind the first are the same
+-- the same head, where the lists after the first are the same
 head_by : (r : Result NextHead ExpandFault) (old mid new : List (List Marked)) (h k : Head) → other_lists mid ≡ other_lists old → h ≡ k → IsHead r mid new h → IsHead r old new k
 head_by (Ok next.Finished) old mid new h k others same is = (sym same ∙ is.0, is.1 ∙ others)
 head_by (Ok (next.Stays x)) old mid new h k others same is = (sym same ∙ is.0, is.1 ∙ others)
@@ -56,6 +56,6 @@ called_head d (Some params) m old mid new None r some is_open takes is = absurd 
     by wrong = cc
 called_head d (Some params) m old mid new (Some n) r some is_open takes is =
     let first : first_list old ≡ n ∷ first_list mid = ap first_list takes ∙ first_more n mid in
-    let opening : is_opens (part_of n.token) ≡ true = sym (ap opens first) ∙ is_open in
+    let opening : is_opens (delimiter_of n.token) ≡ true = sym (ap opens first) ∙ is_open in
     head_by r old mid new (call_head d m (closed (first_list mid) 0)) (macro_head d (Some params) m (first_list old)) (others_are n old mid takes)
-    (sym (ap (macro_head d (Some params) m) first ∙ cond-true (is_opens (part_of n.token)) (call_head d m (closed (first_list mid) 0)) (Stays m (n ∷ first_list mid)) opening)) is
+    (sym (ap (macro_head d (Some params) m) first ∙ cond-true (is_opens (delimiter_of n.token)) (call_head d m (closed (first_list mid) 0)) (Stays m (n ∷ first_list mid)) opening)) is

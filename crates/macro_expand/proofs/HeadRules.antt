@@ -3,7 +3,7 @@ use Rattle.std.proofs.Common.{◌≡◌, ℕ, true, false, cond, List, [], ◌�
 use Rattle.std.proofs.lemmas.Bool.{cond_both, cond-true, cond-false}
 use Rattle.macro_expand.specs.declared.here.Here.{Here}
 use Rattle.macro_expand.specs.declared.fault.ExpandFault.TheVariants.{ArgCount}
-use Rattle.macro_expand.specs.Marked.{Marked, part_of}
+use Rattle.macro_expand.specs.Marked.{Marked, delimiter_of}
 use Rattle.macro_table.specs.Definitions.{DefValue}
 use Rattle.macro_expand.specs.Macros.{Macros}
 use Rattle.macro_expand.specs.Calls.{Closed, closed, arguments, fits}
@@ -25,12 +25,12 @@ module _ (macros : Macros) (here : Here) where
 
   uncalled : (d : DefValue) (names : List (List ℕ)) (m : Marked) (rest : List Marked) → NoParenthesis rest → macro_head d (Some names) m rest ≡ Stays m rest
   uncalled d names m [] h = refl
-  uncalled d names m (n ∷ ns) h = cond-false (is_opens (part_of n.token)) (call_head d m (closed ns 0)) (Stays m (n ∷ ns)) h
+  uncalled d names m (n ∷ ns) h = cond-false (is_opens (delimiter_of n.token)) (call_head d m (closed ns 0)) (Stays m (n ∷ ns)) h
 
-  called : (m n : Marked) (rest : List Marked) (d : DefValue) (c : Option Closed) → IsFunction macros m d → is_opens (part_of n.token) ≡ true → closed rest 0 ≡ c → head_of macros here (m ∷ n ∷ rest) ≡ call_head d m c
+  called : (m n : Marked) (rest : List Marked) (d : DefValue) (c : Option Closed) → IsFunction macros m d → is_opens (delimiter_of n.token) ≡ true → closed rest 0 ≡ c → head_of macros here (m ∷ n ∷ rest) ≡ call_head d m c
   called m n rest d c f p k =
       macro_is m d (n ∷ rest) (Some f.names) f.macro f.params
-      ∙ cond-true (is_opens (part_of n.token)) (call_head d m (closed rest 0)) (Stays m (n ∷ rest)) p ∙ ap (call_head d m) k
+      ∙ cond-true (is_opens (delimiter_of n.token)) (call_head d m (closed rest 0)) (Stays m (n ∷ rest)) p ∙ ap (call_head d m) k
 
   -- a head that the rules give is the head
   pub head_only : {list : List Marked} {head : Head} → HasHead macros here list head → head_of macros here list ≡ head
@@ -47,7 +47,7 @@ module _ (macros : Macros) (here : Here) where
   head_only (Called {m} {n} {rest} {d} {c} f p k h) = called m n rest d (Some c) f p k ∙ cond-true (fits d (length (arguments d c.inside))) (Replaced (function_call d m c)) (Fails (ArgCount m.token.text (length (arguments d c.inside)))) h
 
   module _ (m : Marked) (d : DefValue) (i : IsMacro macros m d) where
-    call_ruled : (f : IsFunction macros m d) (n : Marked) (ns : List Marked) → is_opens (part_of n.token) ≡ true → (o : Option Closed) → closed ns 0 ≡ o → HasHead macros here (m ∷ n ∷ ns) (call_head d m o)
+    call_ruled : (f : IsFunction macros m d) (n : Marked) (ns : List Marked) → is_opens (delimiter_of n.token) ≡ true → (o : Option Closed) → closed ns 0 ≡ o → HasHead macros here (m ∷ n ∷ ns) (call_head d m o)
     call_ruled f n ns q None k = Open f q k
     call_ruled f n ns q (Some c) k =
         cond_both (fits d (length (arguments d c.inside))) (Replaced (function_call d m c)) (Fails (ArgCount m.token.text (length (arguments d c.inside)))) (HasHead macros here (m ∷ n ∷ ns))
@@ -58,7 +58,7 @@ module _ (macros : Macros) (here : Here) where
     macro_ruled [] (Some names) e = Uncalled (record { macro = i; names = names; params = e }) tt
     macro_ruled (n ∷ ns) (Some names) e =
         let f : IsFunction macros m d = record { macro = i; names = names; params = e } in
-        cond_both (is_opens (part_of n.token)) (call_head d m (closed ns 0)) (Stays m (n ∷ ns)) (HasHead macros here (m ∷ n ∷ ns))
+        cond_both (is_opens (delimiter_of n.token)) (call_head d m (closed ns 0)) (Stays m (n ∷ ns)) (HasHead macros here (m ∷ n ∷ ns))
         (λ o. call_ruled f n ns o (closed ns 0) refl) (λ o. Uncalled f o)
 
   name_ruled : (m : Marked) → IsName m → (rest : List Marked) (o : Option (Option DefValue)) → macros m.token.text ≡ o → HasHead macros here (m ∷ rest) (name_head o m rest)

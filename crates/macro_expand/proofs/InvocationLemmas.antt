@@ -3,9 +3,9 @@ use Rattle.std.proofs.Common.{◌≡◌, ℕ, zero, suc, ◌+◌, ◌-◌, ◌�
 use Rattle.std.specs.Prelude.{◌↔◌}
 use Rattle.std.proofs.lemmas.List.{append-nil}
 use Rattle.std.proofs.lemmas.Bool.{cond-true, cond-false}
-use Rattle.macro_expand.specs.declared.part.Part.{Part}
-use Rattle.macro_expand.specs.declared.part.Part.TheVariants.{Opens, Closes, Comma, Inner}
-use Rattle.macro_expand.specs.Marked.{Marked, part_of}
+use Rattle.macro_expand.specs.declared.delimiter.Delimiter.{Delimiter}
+use Rattle.macro_expand.specs.declared.delimiter.Delimiter.TheVariants.{Opens, Closes, Comma, Inner}
+use Rattle.macro_expand.specs.Marked.{Marked, delimiter_of}
 use Rattle.macro_table.specs.Definitions.{DefValue}
 use Rattle.macro_expand.specs.Macros.{named_params}
 use Rattle.macro_expand.specs.Calls.{Closed, closed, inside_too, to_first, depth_behind, ends_call, parts, split, commas_of, arguments_of, arguments}
@@ -21,7 +21,7 @@ back d = omega arith
 
 -- Where a call ends.
 
-closed_is : (m : Marked) (ms : List Marked) (d : ℕ) (p : Part) → part_of m.token ≡ p →
+closed_is : (m : Marked) (ms : List Marked) (d : ℕ) (p : Delimiter) → delimiter_of m.token ≡ p →
     closed (m ∷ ms) d ≡ cond (ends_call p d) (Some (record { inside = []; close = m; rest = ms })) (inside_too m (closed ms (depth_behind p d)))
 unfolding closed
 closed_is m ms d p e = ap (λ q. cond (ends_call q d) (Some (record { inside = []; close = m; rest = ms })) (inside_too m (closed ms (depth_behind q d)))) e
@@ -68,7 +68,7 @@ record Cut (Others : List Marked → Type 0) (b : List Marked) : Type 0 where
   more : List Marked
   tokens : b ≡ first ++ closing ∷ more
   balanced : IsBalanced first
-  matching : part_of closing.token ≡ Closes
+  matching : delimiter_of closing.token ≡ Closes
   others : Others more
 
 -- so many `)` are left alone by what is balanced between them
@@ -80,7 +80,7 @@ one_more : (m : Marked) → ((b : List Marked) → IsBalanced b → IsBalanced (
 one_more m more zero b u = more b u
 one_more m more (suc d) b u = record { first = m ∷ u.first; closing = u.closing; more = u.more; tokens = ap (λ l. m ∷ l) u.tokens; balanced = more u.first u.balanced; matching = u.matching; others = u.others }
 
-opened_more : (m : Marked) → part_of m.token ≡ Opens → (d : ℕ) (b : List Marked) → Unwinds (suc d) b → Unwinds d (m ∷ b)
+opened_more : (m : Marked) → delimiter_of m.token ≡ Opens → (d : ℕ) (b : List Marked) → Unwinds (suc d) b → Unwinds d (m ∷ b)
 opened_more m o zero b u = subst IsBalanced (ap (λ l. m ∷ l) (sym u.tokens)) (Pair u.first u.closing u.more o u.balanced u.matching u.others)
 opened_more m o (suc d) b u =
     let v : Cut (Unwinds d) u.more = u.others in
@@ -97,7 +97,7 @@ opened_more m o (suc d) b u =
 -- what is found at a depth
 record Found (list : List Marked) (d : ℕ) (c : Closed) : Type 0 where
   tokens : list ≡ c.inside ++ c.close ∷ c.rest
-  matching : part_of c.close.token ≡ Closes
+  matching : delimiter_of c.close.token ≡ Closes
   unwinds : Unwinds d c.inside
 
 -- what is found with a token more was found without it
@@ -117,10 +117,10 @@ module _ (m : Marked) (ms : List Marked) (later : (d : ℕ) (c : Closed) → clo
       let f = later e w.inner w.found in
       subst (Found (m ∷ ms) d) w.more (record { tokens = ap (λ l. m ∷ l) f.tokens; matching = f.matching; unwinds = more w.inner.inside f.unwinds })
 
-  ended : (c : Closed) → part_of m.token ≡ Closes → Some (record { inside = []; close = m; rest = ms }) ≡ Some c → Found (m ∷ ms) 0 c
+  ended : (c : Closed) → delimiter_of m.token ≡ Closes → Some (record { inside = []; close = m; rest = ms }) ≡ Some c → Found (m ∷ ms) 0 c
   ended c e h = let k : record { inside = []; close = m; rest = ms } ≡ c = cc in subst (Found (m ∷ ms) 0) k (record { tokens = refl; matching = e; unwinds = Nothing })
 
-  found_by : (p : Part) → part_of m.token ≡ p → (d : ℕ) (c : Closed) → closed (m ∷ ms) d ≡ Some c → Found (m ∷ ms) d c
+  found_by : (p : Delimiter) → delimiter_of m.token ≡ p → (d : ℕ) (c : Closed) → closed (m ∷ ms) d ≡ Some c → Found (m ∷ ms) d c
   found_by Inner e d c h = found_more d d c (sym (closed_is m ms d Inner e) ∙ h) (one_more m (λ b i. Plain e i) d)
   found_by Comma e d c h = found_more d d c (sym (closed_is m ms d Comma e) ∙ h) (one_more m (λ b i. Separator e i) d)
   found_by Opens e d c h =
@@ -135,7 +135,7 @@ module _ (m : Marked) (ms : List Marked) (later : (d : ℕ) (c : Closed) → clo
 found : (list : List Marked) (d : ℕ) (c : Closed) → closed list d ≡ Some c → Found list d c
 unfolding closed
 found [] d c h = cc
-found (m ∷ ms) d c h = found_by m ms (found ms) (part_of m.token) refl d c h
+found (m ∷ ms) d c h = found_by m ms (found ms) (delimiter_of m.token) refl d c h
 
 pub call_is : (list : List Marked) (c : Closed) → closed list 0 ≡ Some c → IsCallIn list c
 call_is list c h = let f = found list 0 c h in record { tokens = f.tokens; balanced = f.unwinds; matching = f.matching }
@@ -152,7 +152,7 @@ none_there list e c is = let k : closed list 0 ≡ Some c = call_found list c is
 
 -- The arguments.
 
-split_is : (m : Marked) (ms : List Marked) (commas d : ℕ) (p : Part) → part_of m.token ≡ p →
+split_is : (m : Marked) (ms : List Marked) (commas d : ℕ) (p : Delimiter) → delimiter_of m.token ≡ p →
     split (m ∷ ms) commas d ≡ cond (parts p commas d) ([] ∷ split ms (commas - 1) d) (to_first m (split ms commas (depth_behind p d)))
 unfolding split
 split_is m ms commas d p e = ap (λ q. cond (parts q commas d) ([] ∷ split ms (commas - 1) d) (to_first m (split ms commas (depth_behind q d)))) e
@@ -168,7 +168,7 @@ front_end (m ∷ ms) ls = ap (to_first m) (front_end ms ls)
 inner_comma : (commas d : ℕ) → parts Comma commas (d + 1) ≡ false
 inner_comma commas d = ap (λ b. b && not (nat_eq commas 0)) (deeper d)
 
-pair_split : (opening closing : Marked) (inner after tail : List Marked) (commas d : ℕ) → part_of opening.token ≡ Opens → part_of closing.token ≡ Closes →
+pair_split : (opening closing : Marked) (inner after tail : List Marked) (commas d : ℕ) → delimiter_of opening.token ≡ Opens → delimiter_of closing.token ≡ Closes →
     split (inner ++ (closing ∷ after ++ tail)) commas (d + 1) ≡ in_front inner (split (closing ∷ after ++ tail) commas (d + 1)) →
     split (after ++ tail) commas d ≡ in_front after (split tail commas d) →
     split (opening ∷ ((inner ++ closing ∷ after) ++ tail)) commas d ≡ in_front (opening ∷ inner ++ closing ∷ after) (split tail commas d)

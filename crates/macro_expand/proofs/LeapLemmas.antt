@@ -2,15 +2,15 @@
 use Rattle.std.proofs.Common.{◌≡◌, ℕ, zero, suc, ◌+◌, ◌-◌, ◌≤◌, Bool, true, false, cond, nat_eq, not, ◌&&◌, List, [], ◌∷◌, ◌++◌, map, take, drop, length, Option, Some, None, inl, inr, refl, sym, ap, ◌∙◌, subst, arith, append_assoc}
 use Rattle.std.proofs.lemmas.List.{append-nil, length-drop, take-append-drop, length-take-le}
 use Rattle.std.proofs.lemmas.Bool.{cond-false, eqb-true}
-use Rattle.macro_expand.specs.declared.part.Part.{Part}
-use Rattle.macro_expand.specs.declared.part.Part.TheVariants.{Opens, Closes, Comma, Inner}
-use Rattle.macro_expand.specs.declared.hidden.Hidden.{Hidden}
-use Rattle.macro_expand.specs.declared.slots.Slot.{Slot}
-use Rattle.macro_expand.specs.declared.slots.Slot.TheVariants as slot
+use Rattle.macro_expand.specs.declared.delimiter.Delimiter.{Delimiter}
+use Rattle.macro_expand.specs.declared.delimiter.Delimiter.TheVariants.{Opens, Closes, Comma, Inner}
+use Rattle.macro_expand.specs.declared.hide_set.hidden_token.HiddenToken.{HiddenToken}
+use Rattle.macro_expand.specs.declared.rescan.slots.Slot.{Slot}
+use Rattle.macro_expand.specs.declared.rescan.slots.Slot.TheVariants as slot
 use Rattle.macro_expand.specs.Heads.{is_opens}
-use Rattle.macro_expand.specs.Marked.{Marked, part_of}
+use Rattle.macro_expand.specs.Marked.{Marked, delimiter_of}
 use Rattle.macro_expand.specs.Calls.{depth_behind, ends_call, parts}
-use Rattle.macro_expand.specs.Slots.{Place, Stands, Ends, place_of, place_part, places, Opened, stands_too, ends_too, opened, passed, turned, leap, is_none_left, closes_at, StaysWithin, IsRight, AreRight, AllRight, IsClosing}
+use Rattle.macro_expand.specs.Slots.{Place, Stands, Ends, place_of, place_delimiter, places, Opened, stands_too, ends_too, opened, passed, turned, leap, is_none_left, closes_at, StaysWithin, IsRight, AreRight, AllRight, IsClosing}
 use Rattle.macro_expand.proofs.PassLemmas.{backwards_push}
 
 pub map_turned : (xs : List Slot) → map place_of (turned xs) ≡ places xs
@@ -21,10 +21,10 @@ map_turned (x ∷ xs) = map_join (turned xs) x ∙ ap (λ l. l ++ place_of x ∷
     map_join [] x = refl
     map_join (y ∷ ys) x = ap (λ l. place_of y ∷ l) (map_join ys x)
 
--- One group of parentheses behind another.
+-- One group of parentheses after another.
 
 -- what is decided by the part of the first token
-abbrev pub closes_by : Part → ℕ → List Place → ℕ → Bool
+abbrev pub closes_by : Delimiter → ℕ → List Place → ℕ → Bool
 closes_by p k ps depth = cond (ends_call p depth) (is_none_left k) (closes_at k ps (depth_behind p depth))
 
 not_zero : (m e : ℕ) → m ≡ suc e → nat_eq m 0 ≡ false
@@ -44,15 +44,15 @@ last : (i : ℕ) → is_none_left i ≡ true → i ≡ 0
 last zero h = refl
 last (suc i) h = cc
 
--- what closes further out stands behind what closes here
+-- what closes further out comes after what closes here
 pub over : (j k n : ℕ) (ps : List Place) (d e m : ℕ) → n ≡ j + k → m ≡ suc (d + e) → closes_at j ps d ≡ true → closes_at n ps m ≡ closes_at k (drop j ps) e
 over zero k n ps d e m g f h = cc
 over (suc i) k zero ps d e m g f h = absurd (omega (arith, g))
 over (suc i) k (suc n) [] d e m g f h = cc
 over (suc i) k (suc n) (Ends ∷ ps) d e m g f h = cc
-over (suc i) k (suc n) (Stands q ∷ ps) d e m g f h = let g2 : n ≡ i + k = omega (arith, g) in go (part_of q.token) d h f (λ d m. over i k n ps d e m g2)
+over (suc i) k (suc n) (Stands q ∷ ps) d e m g f h = let g2 : n ≡ i + k = omega (arith, g) in go (delimiter_of q.token) d h f (λ d m. over i k n ps d e m g2)
   where
-    go : (p : Part) (d : ℕ) → closes_by p i ps d ≡ true → m ≡ suc (d + e) → ((d m : ℕ) → m ≡ suc (d + e) → closes_at i ps d ≡ true → closes_at n ps m ≡ closes_at k (drop i ps) e) → closes_by p n ps m ≡ closes_at k (drop i ps) e
+    go : (p : Delimiter) (d : ℕ) → closes_by p i ps d ≡ true → m ≡ suc (d + e) → ((d m : ℕ) → m ≡ suc (d + e) → closes_at i ps d ≡ true → closes_at n ps m ≡ closes_at k (drop i ps) e) → closes_by p n ps m ≡ closes_at k (drop i ps) e
     go Opens d h f r = r (d + 1) (m + 1) (omega (arith, f)) h
     go Closes zero h f r =
         let z = last i h in
@@ -73,9 +73,9 @@ pub closes_more : (k d : ℕ) (ps qs : List Place) → closes_at k ps d ≡ true
 closes_more zero d ps qs h = cc
 closes_more (suc k) d [] qs h = cc
 closes_more (suc k) d (Ends ∷ ps) qs h = cc
-closes_more (suc k) d (Stands m ∷ ps) qs h = go (part_of m.token) d h (λ d. closes_more k d ps qs)
+closes_more (suc k) d (Stands m ∷ ps) qs h = go (delimiter_of m.token) d h (λ d. closes_more k d ps qs)
   where
-    go : (p : Part) (d : ℕ) → closes_by p k ps d ≡ true → ((d : ℕ) → closes_at k ps d ≡ true → closes_at k (ps ++ qs) d ≡ true) → closes_by p k (ps ++ qs) d ≡ true
+    go : (p : Delimiter) (d : ℕ) → closes_by p k ps d ≡ true → ((d : ℕ) → closes_at k ps d ≡ true → closes_at k (ps ++ qs) d ≡ true) → closes_by p k (ps ++ qs) d ≡ true
     go Opens d h r = r (d + 1) h
     go Closes zero h r = h
     go Closes (suc d) h r = deeper k (suc d) d (ps ++ qs) refl ∙ r d (sym (deeper k (suc d) d ps refl) ∙ h)
@@ -86,9 +86,9 @@ pub closes_take : (k d : ℕ) (ps : List Place) → closes_at k ps d ≡ true �
 closes_take zero d ps h = cc
 closes_take (suc k) d [] h = cc
 closes_take (suc k) d (Ends ∷ ps) h = cc
-closes_take (suc k) d (Stands m ∷ ps) h = go (part_of m.token) d h (λ d. closes_take k d ps)
+closes_take (suc k) d (Stands m ∷ ps) h = go (delimiter_of m.token) d h (λ d. closes_take k d ps)
   where
-    go : (p : Part) (d : ℕ) → closes_by p k ps d ≡ true → ((d : ℕ) → closes_at k ps d ≡ true → closes_at k (take k ps) d ≡ true) → closes_by p k (take k ps) d ≡ true
+    go : (p : Delimiter) (d : ℕ) → closes_by p k ps d ≡ true → ((d : ℕ) → closes_at k ps d ≡ true → closes_at k (take k ps) d ≡ true) → closes_by p k (take k ps) d ≡ true
     go Opens d h r = r (d + 1) h
     go Closes zero h r = h
     go Closes (suc d) h r = deeper k (suc d) d (take k ps) refl ∙ r d (sym (deeper k (suc d) d ps refl) ∙ h)
@@ -189,7 +189,7 @@ none_passed : (o : Option Opened) → o ≡ passed 0 [] o
 none_passed None = refl
 none_passed (Some o) = let e : o.count ≡ 0 + o.count = omega arith in ap (λ n. Some (record { count = n; close = o.close; places = o.places })) e
 
-abbrev pub opens_by : Part → Marked → List Place → ℕ → ℕ → Option Opened
+abbrev pub opens_by : Delimiter → Marked → List Place → ℕ → ℕ → Option Opened
 opens_by p m ps commas depth =
     cond (ends_call p depth) (Some (record { count = 1; close = m.hides; places = Ends ∷ ps })) (cond (parts p commas depth) (ends_too (opened ps (commas - 1) depth)) (stands_too m (opened ps commas (depth_behind p depth))))
 
@@ -205,12 +205,12 @@ pub opened_over : (j c d e m : ℕ) (ps : List Place) → m ≡ suc (d + e) → 
 opened_over zero c d e m ps f h = cc
 opened_over (suc i) c d e m [] f h = cc
 opened_over (suc i) c d e m (Ends ∷ ps) f h = cc
-opened_over (suc i) c d e m (Stands q ∷ ps) f h = go (part_of q.token) d h f (λ d m. opened_over i c d e m ps)
+opened_over (suc i) c d e m (Stands q ∷ ps) f h = go (delimiter_of q.token) d h f (λ d m. opened_over i c d e m ps)
   where
     step : (n : ℕ) → opened ps c n ≡ passed 0 (take i ps) (opened (drop i ps) c e) → stands_too q (opened ps c n) ≡ passed 0 (Stands q ∷ take i ps) (opened (drop i ps) c e)
     step n r = ap (stands_too q) r ∙ stands_over q (take i ps) (opened (drop i ps) c e)
 
-    go : (p : Part) (d : ℕ) → closes_by p i ps d ≡ true → m ≡ suc (d + e) → ((d m : ℕ) → m ≡ suc (d + e) → closes_at i ps d ≡ true → opened ps c m ≡ passed 0 (take i ps) (opened (drop i ps) c e)) → opens_by p q ps c m ≡ passed 0 (Stands q ∷ take i ps) (opened (drop i ps) c e)
+    go : (p : Delimiter) (d : ℕ) → closes_by p i ps d ≡ true → m ≡ suc (d + e) → ((d m : ℕ) → m ≡ suc (d + e) → closes_at i ps d ≡ true → opened ps c m ≡ passed 0 (take i ps) (opened (drop i ps) c e)) → opens_by p q ps c m ≡ passed 0 (Stands q ∷ take i ps) (opened (drop i ps) c e)
     go Opens d h f r = step (m + 1) (r (d + 1) (m + 1) (omega (arith, f)) h)
     go Closes zero h f r =
         opens_deeper q ps c m e (omega (arith, f)) ∙ ap (stands_too q) (none_passed (opened ps c e)) ∙ stands_over q [] (opened ps c e)
@@ -221,7 +221,7 @@ opened_over (suc i) c d e m (Stands q ∷ ps) f h = go (part_of q.token) d h f (
 
 -- What is seen from the top down.
 
--- what closes, or stays, behind the slots that were passed does so from the top
+-- what closes, or stays, after the slots that were passed does so from the top
 pub record Seen (all left : List Slot) : Type 0 where
   pub right : AllRight left
   pub few : length left ≤ length all
@@ -248,19 +248,19 @@ long_top left rest s e = ap length e ∙ more rest
     more [] = refl
     more (x ∷ xs) = let r = more xs in omega (arith, r)
 
-closes_word : (p : Place) (kind : Part) (k d : ℕ) (ps : List Place) → place_part p ≡ Some kind → closes_at (suc k) (p ∷ ps) d ≡ closes_by kind k ps d
-closes_word (Stands m) kind k d ps e = ap (λ q. closes_by q k ps d) (some_same (part_of m.token) kind e)
+closes_word : (p : Place) (kind : Delimiter) (k d : ℕ) (ps : List Place) → place_delimiter p ≡ Some kind → closes_at (suc k) (p ∷ ps) d ≡ closes_by kind k ps d
+closes_word (Stands m) kind k d ps e = ap (λ q. closes_by q k ps d) (some_same (delimiter_of m.token) kind e)
   where
-    some_same : (a b : Part) → Some a ≡ Some b → a ≡ b
+    some_same : (a b : Delimiter) → Some a ≡ Some b → a ≡ b
     some_same a b e = cc
 closes_word Ends kind k d ps e = cc
 
 -- only a parenthesis says something
-quiet : (s : Slot) (ss : List Slot) (kind : Part) → place_part (place_of s) ≡ Some kind → (Some kind ≡ Some Opens → ⊥) → IsRight s ss → leap s ≡ 0
+quiet : (s : Slot) (ss : List Slot) (kind : Delimiter) → place_delimiter (place_of s) ≡ Some kind → (Some kind ≡ Some Opens → ⊥) → IsRight s ss → leap s ≡ 0
 quiet s ss kind e n (inl z) = z
 quiet s ss kind e n (inr r) = absurd (n (sym e ∙ r.0))
 
-module _ (all left rest : List Slot) (s : Slot) (kind : Part) (e : left ≡ rest ++ s ∷ []) (is : place_part (place_of s) ≡ Some kind) (v : Seen all left) where
+module _ (all left rest : List Slot) (s : Slot) (kind : Delimiter) (e : left ≡ rest ++ s ∷ []) (is : place_delimiter (place_of s) ≡ Some kind) (v : Seen all left) where
   right_top : AreRight (s ∷ turned rest)
   right_top = subst AreRight (turned_top left rest s e) v.right
 
@@ -334,7 +334,7 @@ turned_take xs k h =
     let l : length (turned (drop n xs)) ≡ k = turned_long (drop n xs) ∙ length-drop n xs ∙ omega (arith, h) in
     sym (ap (drop k) (ap turned (sym (take-append-drop n xs)) ∙ turned_both (take n xs) (drop n xs)) ∙ drop_front (turned (drop n xs)) (turned (take n xs)) k l)
 
-module _ (all left rest : List Slot) (s : Slot) (e : left ≡ rest ++ s ∷ []) (is : place_part (place_of s) ≡ Some Opens) (v : Seen all left) (j : ℕ) (g : j ≡ leap s) (n : j ≡ 0 → ⊥) where
+module _ (all left rest : List Slot) (s : Slot) (e : left ≡ rest ++ s ∷ []) (is : place_delimiter (place_of s) ≡ Some Opens) (v : Seen all left) (j : ℕ) (g : j ≡ leap s) (n : j ≡ 0 → ⊥) where
   said : (closes_at (leap s) (map place_of (turned rest)) 0 ≡ true) × StaysWithin (leap s) (turned rest)
   said = go (right_top all left rest s Opens e is v).0
     where
@@ -373,7 +373,7 @@ pub inner_no : Some Inner ≡ Some Opens → ⊥
 inner_no e = cc
 
 -- a token that is put on top
-pub opening_right : (h : Hidden) (n : ℕ) (p : Part) (ss : List Slot) → p ≡ part_of h.token → is_opens p ≡ true → IsClosing n ss → IsRight (slot.Word h n) ss
+pub opening_right : (h : HiddenToken) (n : ℕ) (p : Delimiter) (ss : List Slot) → p ≡ delimiter_of h.token → is_opens p ≡ true → IsClosing n ss → IsRight (slot.Word h n) ss
 opening_right h n Opens ss e o (inl z) = inl z
 opening_right h n Opens ss e o (inr r) = inr (ap Some (sym e), r.0, r.1)
 opening_right h n Closes ss e o c = cc

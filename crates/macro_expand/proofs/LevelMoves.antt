@@ -4,9 +4,9 @@ use Rattle.std.proofs.lemmas.List.{map_push, map-append, length-map}
 use Rattle.macro_expand.specs.declared.here.Here.{Here}
 use Rattle.macro_expand.specs.declared.fault.ExpandFault.{ExpandFault}
 use Rattle.macro_expand.specs.declared.fault.ExpandFault.TheVariants.{NoMemory, TooLong}
-use Rattle.macro_expand.specs.declared.hidden.Hidden.{Hidden}
-use Rattle.macro_expand.specs.declared.head.Replacing.{Replacing}
-use Rattle.macro_expand.specs.declared.once.Level.{Level}
+use Rattle.macro_expand.specs.declared.hide_set.hidden_token.HiddenToken.{HiddenToken}
+use Rattle.macro_expand.specs.declared.rescan.head.MacroCall.{MacroCall}
+use Rattle.macro_expand.specs.declared.rescan.once.Level.{Level}
 use Rattle.macro_table.specs.Definitions.{DefValue}
 use Rattle.macro_expand.specs.Marked.{Marked}
 use Rattle.macro_expand.specs.Macros.{Macros, params_of}
@@ -42,7 +42,7 @@ module _ (macros : Macros) (here : Here) where
   pub level_end : (l : Level) → head_of macros here (first_list (lists l.slots)) ≡ Finished → level_meaning macros here l ≡ Ok (map marked l.out.items, l.work)
   level_end l e = level_by l Finished e ∙ ap (λ x. Ok (x, l.work)) (append-nil (map marked l.out.items))
 
-  pub level_stays : (l n : Level) (k : Hidden) → head_of macros here (first_list (lists l.slots)) ≡ Stays (marked k) (first_list (lists n.slots)) → n.out.items ≡ l.out.items ++ k ∷ [] → n.work ≡ l.work → l.work ≤ limit →
+  pub level_stays : (l n : Level) (k : HiddenToken) → head_of macros here (first_list (lists l.slots)) ≡ Stays (marked k) (first_list (lists n.slots)) → n.out.items ≡ l.out.items ++ k ∷ [] → n.work ≡ l.work → l.work ≤ limit →
       LevelGoesOn macros here (level_meaning macros here l) (level_size l) n
   level_stays l n k e o w limited =
       let rest : List Marked = first_list (lists n.slots) in
@@ -55,19 +55,19 @@ module _ (macros : Macros) (here : Here) where
       }
 
   -- a name that is replaced, where the code has its call
-  pub level_replaced : (l n m : Level) (r : Replacing) → head_of macros here (first_list (lists l.slots)) ≡ Replaced (call_of r (lists n.slots)) → n.out ≡ l.out → n.work ≡ l.work →
+  pub level_replaced : (l n m : Level) (r : MacroCall) → head_of macros here (first_list (lists l.slots)) ≡ Replaced (call_of r (lists n.slots)) → n.out ≡ l.out → n.work ≡ l.work →
       LevelGoesOn macros here (level_replacing macros here n r) (suc (length (call_of r (lists n.slots)).rest)) m → LevelGoesOn macros here (level_meaning macros here l) (level_size l) m
   level_replaced l n m r e o w g =
       let s : weight (call_of r (lists n.slots)).args + length (call_of r (lists n.slots)).rest < level_size l = level_sized l (Replaced (call_of r (lists n.slots))) e in
       record { same = g.same ∙ replacing_is l n r e o w; less = omega (arith, g.less, s); work = g.work }
     where
-      replacing_is : (l n : Level) (r : Replacing) → head_of macros here (first_list (lists l.slots)) ≡ Replaced (call_of r (lists n.slots)) → n.out ≡ l.out → n.work ≡ l.work → level_replacing macros here n r ≡ level_meaning macros here l
+      replacing_is : (l n : Level) (r : MacroCall) → head_of macros here (first_list (lists l.slots)) ≡ Replaced (call_of r (lists n.slots)) → n.out ≡ l.out → n.work ≡ l.work → level_replacing macros here n r ≡ level_meaning macros here l
       replacing_is l n r e o w =
           ap (λ x. after (map marked x.items) (once_from (single_level macros here) (Replaced (call_of r (lists n.slots))) n.work)) o
           ∙ ap (λ x. after (map marked l.out.items) (once_from (single_level macros here) (Replaced (call_of r (lists n.slots))) x)) w
           ∙ sym (level_by l (Replaced (call_of r (lists n.slots))) e)
 
-  pub level_replaced_fault : (l n : Level) (r : Replacing) (fault : ExpandFault) → head_of macros here (first_list (lists l.slots)) ≡ Replaced (call_of r (lists n.slots)) → n.out ≡ l.out → n.work ≡ l.work →
+  pub level_replaced_fault : (l n : Level) (r : MacroCall) (fault : ExpandFault) → head_of macros here (first_list (lists l.slots)) ≡ Replaced (call_of r (lists n.slots)) → n.out ≡ l.out → n.work ≡ l.work →
       IsFaultOf fault (level_replacing macros here n r) → IsFaultOf fault (level_meaning macros here l)
   level_replaced_fault l n r fault e o w (inl f) = inl f
   level_replaced_fault l n r fault e o w (inr f) =
@@ -77,17 +77,17 @@ module _ (macros : Macros) (here : Here) where
 
   -- The list that replaces a name.
 
-  pub put_fault : (l : Level) (r : Replacing) (fault : ExpandFault) → IsFaultOf fault (put_by (call_of r (lists l.slots))) → IsFaultOf fault (level_replacing macros here l r)
+  pub put_fault : (l : Level) (r : MacroCall) (fault : ExpandFault) → IsFaultOf fault (put_by (call_of r (lists l.slots))) → IsFaultOf fault (level_replacing macros here l r)
   put_fault l r fault (inl e) = inl e
   put_fault l r fault (inr e) = inr (rw e refl)
 
-  pub put_too_long : (l : Level) (r : Replacing) (list : List Hidden) → put_by (call_of r (lists l.slots)) ≡ Ok (map marked list) → limit < l.work + length list → level_replacing macros here l r ≡ Err TooLong
+  pub put_too_long : (l : Level) (r : MacroCall) (list : List HiddenToken) → put_by (call_of r (lists l.slots)) ≡ Ok (map marked list) → limit < l.work + length list → level_replacing macros here l r ≡ Err TooLong
   put_too_long l r list e h =
       let c : Call = call_of r (lists l.slots) in
       let more : limit < l.work + length (map marked list) = omega (arith, length-map list marked) in
       rw e (ap (after (map marked l.out.items)) (within_false (l.work + length (map marked list)) (λ w. after (map marked list) (single_level macros here c.rest w)) more))
 
-  pub put_goes_on : (l n : Level) (r : Replacing) (list : List Hidden) → put_by (call_of r (lists l.slots)) ≡ Ok (map marked list) → first_list (lists n.slots) ≡ (call_of r (lists l.slots)).rest →
+  pub put_goes_on : (l n : Level) (r : MacroCall) (list : List HiddenToken) → put_by (call_of r (lists l.slots)) ≡ Ok (map marked list) → first_list (lists n.slots) ≡ (call_of r (lists l.slots)).rest →
       n.out.items ≡ l.out.items ++ list → n.work ≡ l.work + length list → l.work + length list ≤ limit →
       LevelGoesOn macros here (level_replacing macros here l r) (suc (length (call_of r (lists l.slots)).rest)) n
   put_goes_on l n r list e f o w h =

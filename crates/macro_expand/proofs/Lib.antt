@@ -13,7 +13,7 @@ pub mod SlotLemmas
 pub mod LeapLemmas
 pub mod CutLemmas
 pub mod ParamLemmas
-pub mod KnownLemmas
+pub mod ParsedLemmas
 pub mod CallLemmas
 pub mod InvocationLemmas
 pub mod HeadLemmas

@@ -6,11 +6,11 @@ use Rattle.pp_tokens.specs.declared.token.Token.{Token}
 use Rattle.macro_expand.specs.declared.here.Here.{Here}
 use Rattle.macro_expand.specs.declared.fault.ExpandFault.{ExpandFault}
 use Rattle.macro_expand.specs.declared.fault.ExpandFault.TheVariants.{NoMemory, TooLong}
-use Rattle.macro_expand.specs.declared.hidden.Hidden.{Hidden}
-use Rattle.macro_expand.specs.declared.cell.Given.{Given}
-use Rattle.macro_expand.specs.declared.head.Replacing.{Replacing}
-use Rattle.macro_expand.specs.declared.machine.Frame.{Frame}
-use Rattle.macro_expand.specs.declared.machine.Machine.{Machine}
+use Rattle.macro_expand.specs.declared.hide_set.hidden_token.HiddenToken.{HiddenToken}
+use Rattle.macro_expand.specs.declared.substitution.argument_pass.Argument.{Argument as HeldArgument}
+use Rattle.macro_expand.specs.declared.rescan.head.MacroCall.{MacroCall}
+use Rattle.macro_expand.specs.declared.rescan.machine.Frame.{Frame}
+use Rattle.macro_expand.specs.declared.rescan.machine.Machine.{Machine}
 use Rattle.macro_expand.specs.Marked.{Marked}
 use Rattle.macro_expand.specs.Macros.{Macros, params_of}
 use Rattle.macro_expand.specs.Calls.{Waiting, waiting, stands_free, first_list, other_lists}
@@ -108,7 +108,7 @@ module _ (macros : Macros) (here : Here) where
           ∙ ap (λ x. length (first_list new) + frames_size m.frames.items (other_lists old) + (limit - x)) w in
           omega (arith, s, size_n, size_is)
 
-      on_stays : (k : Hidden) → head_of macros here (first_list old) ≡ Stays (marked k) (first_list new) → other_lists new ≡ other_lists old → n.out.items ≡ m.out.items ++ k ∷ [] → n.frames.items ≡ m.frames.items → m.work ≤ limit → GoesOn macros here (meaning macros here m) (size m) n
+      on_stays : (k : HiddenToken) → head_of macros here (first_list old) ≡ Stays (marked k) (first_list new) → other_lists new ≡ other_lists old → n.out.items ≡ m.out.items ++ k ∷ [] → n.frames.items ≡ m.frames.items → m.work ≤ limit → GoesOn macros here (meaning macros here m) (size m) n
       on_stays k e o p f l =
           let there : meaning macros here n ≡ resume macros here m.frames.items (other_lists old) (after (map marked m.out.items ++ marked k ∷ []) (expansion macros here (first_list new) m.work)) =
           ap (λ ls. resume macros here n.frames.items (other_lists ls) (after (map marked n.out.items) (expansion macros here (first_list ls) n.work))) is_new
@@ -120,7 +120,7 @@ module _ (macros : Macros) (here : Here) where
           record { same = there ∙ sym here_is; less = stays_less (marked k) e o f; work = subst (λ x. x ≤ limit) (sym w) l }
 
       -- the same where it goes out into the text
-      on_text : (text : List Token) (k : Hidden) → head_of macros here (first_list old) ≡ Stays (marked k) (first_list new) → other_lists new ≡ other_lists old → n.out.items ≡ m.out.items → n.frames.items ≡ m.frames.items → m.out.items ≡ [] → m.frames.items ≡ [] → m.work ≤ limit
+      on_text : (text : List Token) (k : HiddenToken) → head_of macros here (first_list old) ≡ Stays (marked k) (first_list new) → other_lists new ≡ other_lists old → n.out.items ≡ m.out.items → n.frames.items ≡ m.frames.items → m.out.items ≡ [] → m.frames.items ≡ [] → m.work ≤ limit
           → TextGoesOn macros here (with_put text (meaning macros here m)) (size m) (text ++ k.token ∷ []) n
       on_text text k e o p f q g l =
           let there : meaning macros here n ≡ after [] (expansion macros here (first_list new) m.work) =
@@ -135,7 +135,7 @@ module _ (macros : Macros) (here : Here) where
           ∙ after_nothing (after (marked k ∷ []) (expansion macros here (first_list new) m.work)) in
           record { same = ap (with_put (text ++ k.token ∷ [])) there ∙ put_one text (marked k) (expansion macros here (first_list new) m.work) ∙ ap (with_put text) (sym here_is); less = stays_less (marked k) e o f; work = subst (λ x. x ≤ limit) (sym w) l }
 
-      pub on_replaced : (r : Replacing) → head_of macros here (first_list old) ≡ Replaced (call_of r new) → skip r new ≡ other_lists old → n.out.items ≡ m.out.items → n.frames.items ≡ m.frames.items → (replacing macros here n r [] ≡ meaning macros here m) × (replacing_size n r < size m)
+      pub on_replaced : (r : MacroCall) → head_of macros here (first_list old) ≡ Replaced (call_of r new) → skip r new ≡ other_lists old → n.out.items ≡ m.out.items → n.frames.items ≡ m.frames.items → (replacing macros here n r [] ≡ meaning macros here m) × (replacing_size n r < size m)
       on_replaced r e o p f =
           let s : weight (call_of r new).args + length (call_of r new).rest < length (first_list old) = sized_by (Replaced (call_of r new)) e in
           let there : replacing macros here n r [] ≡ resume macros here m.frames.items (other_lists old) (after (map marked m.out.items) (finishing macros here (call_of r new) [] m.work)) =
@@ -150,7 +150,7 @@ module _ (macros : Macros) (here : Here) where
           ∙ ap (λ x. call_weight r new + frames_size m.frames.items (other_lists old) + (limit - x)) w in
           (there ∙ sym (by_head (Replaced (call_of r new)) e), omega (arith, s, size_n, size_is))
 
-      pub on_return : (fs : List Frame) (f : Frame) (g : Given) (done : List Given) →
+      pub on_return : (fs : List Frame) (f : Frame) (g : HeldArgument) (done : List HeldArgument) →
           head_of macros here (first_list old) ≡ Finished → new ≡ other_lists old → m.frames.items ≡ fs ++ f ∷ [] →
           argument_of g ≡ argument_in f (map marked m.out.items) → done ≡ f.done.items ++ g ∷ [] → n.out ≡ f.out → n.frames.items ≡ fs →
           (replacing macros here n f.call done ≡ meaning macros here m) × (replacing_size n f.call < size m)
@@ -173,7 +173,7 @@ module _ (macros : Macros) (here : Here) where
           (there ∙ sym here_is, omega (arith, size_n, size_m))
 
     -- a token that stays goes out
-    pub on_put : (b n : Machine) (new : List (List Marked)) → lists b.slots ≡ new → b.work ≡ m.work → b.out ≡ m.out → b.frames ≡ m.frames → (text more : List Token) (k : Hidden) →
+    pub on_put : (b n : Machine) (new : List (List Marked)) → lists b.slots ≡ new → b.work ≡ m.work → b.out ≡ m.out → b.frames ≡ m.frames → (text more : List Token) (k : HiddenToken) →
         head_of macros here (first_list old) ≡ Stays (marked k) (first_list new) → other_lists new ≡ other_lists old → m.work ≤ limit → IsPut b text k n more →
         TextGoesOn macros here (with_put text (meaning macros here m)) (size m) more n
     on_put b n new s w p f text more k e o l (inl g) =
@@ -219,7 +219,7 @@ module _ (macros : Macros) (here : Here) where
       ap (λ b. end c done ((if b then expansion macros here w.plain work else Ok ([], work)) >>= (λ e. each (expansion macros here) more e.1 >>= (λ others. Ok (given_of w e.0 ∷ others.0, others.1))))) u
       ∙ next_argument c done w more (expansion macros here w.plain work)
 
-  -- an argument whose parameter stands beside no operator may have any tokens as written
+  -- an argument whose parameter is beside no operator may have any tokens as written
   finish_trimmed : (c : Call) (done : List Argument) (name : List ℕ) (p q x : List Marked) (work : ℕ) → stands_bound name false c.def.body ≡ false →
       finishing macros here c (done ++ record { name = name; plain = p; expanded = x } ∷ []) work ≡ finishing macros here c (done ++ record { name = name; plain = q; expanded = x } ∷ []) work
   finish_trimmed c done name p q x work h =
@@ -231,7 +231,7 @@ module _ (macros : Macros) (here : Here) where
 
   -- The list of a name whose arguments are all there.
 
-  list_of : (m : Machine) (r : Replacing) (done : List Given) → drop r.next (params_of r.def.value) ≡ [] →
+  list_of : (m : Machine) (r : MacroCall) (done : List HeldArgument) → drop r.next (params_of r.def.value) ≡ [] →
       replacing macros here m r done ≡ resume macros here m.frames.items (skip r (lists m.slots)) (after (map marked m.out.items)
       (substituted r.def.value r.name r.space (hidden_names r.hides) (map argument_of done) >>= (λ list. within (m.work + length list) (expansion macros here (list ++ first_list (drop r.count (lists m.slots)))))))
   list_of m r done w =
@@ -239,14 +239,14 @@ module _ (macros : Macros) (here : Here) where
       ap (λ ps. resume macros here m.frames.items (skip r ls) (after (map marked m.out.items) (finishing macros here (with_args (call_of r ls) (waiting r.def.value ps (take r.count ls))) (map argument_of done) m.work))) w
       ∙ ap (λ l. resume macros here m.frames.items (skip r ls) (after (map marked m.out.items) (substituted r.def.value r.name r.space (hidden_names r.hides) l >>= (λ list. within (m.work + length list) (expansion macros here (list ++ first_list (drop r.count ls))))))) (append-nil (map argument_of done))
 
-  pub on_list_fault : (m : Machine) (r : Replacing) (done : List Given) (fault : ExpandFault) → drop r.next (params_of r.def.value) ≡ [] →
+  pub on_list_fault : (m : Machine) (r : MacroCall) (done : List HeldArgument) (fault : ExpandFault) → drop r.next (params_of r.def.value) ≡ [] →
       IsFaultOf fault (substituted r.def.value r.name r.space (hidden_names r.hides) (map argument_of done)) → IsFaultOf fault (replacing macros here m r done)
   on_list_fault m r done fault w = fault_as fault (substituted r.def.value r.name r.space (hidden_names r.hides) (map argument_of done)) (replacing macros here m r done)
       (λ s. list_of m r done w
       ∙ ap (λ x. resume macros here m.frames.items (skip r (lists m.slots)) (after (map marked m.out.items) (x >>= (λ list. within (m.work + length list) (expansion macros here (list ++ first_list (drop r.count (lists m.slots)))))))) s
       ∙ resume_err m.frames.items (skip r (lists m.slots)) fault)
 
-  module _ (m : Machine) (r : Replacing) (done : List Given) (list : List Hidden) (w : drop r.next (params_of r.def.value) ≡ [])
+  module _ (m : Machine) (r : MacroCall) (done : List HeldArgument) (list : List HiddenToken) (w : drop r.next (params_of r.def.value) ≡ [])
       (s : substituted r.def.value r.name r.space (hidden_names r.hides) (map argument_of done) ≡ Ok (map marked list)) where
     put : replacing macros here m r done ≡ resume macros here m.frames.items (skip r (lists m.slots)) (after (map marked m.out.items)
         (within (m.work + length list) (expansion macros here (map marked list ++ first_list (drop r.count (lists m.slots))))))
@@ -305,10 +305,10 @@ drop_after zero ls = refl
 drop_after (suc k) [] = sym (let e : suc k - 1 ≡ k = omega arith in ap (λ n. drop n []) e ∙ drop_nil k)
 drop_after (suc k) (a ∷ more) = let e : k ≡ suc k - 1 = omega arith in ap (λ n. drop n more) e
 
-module _ (macros : Macros) (here : Here) (r q : Replacing) (name : List ℕ) (ls : List (List Marked))
+module _ (macros : Macros) (here : Here) (r q : MacroCall) (name : List ℕ) (ls : List (List Marked))
     (d : q.def ≡ r.def) (nm : q.name ≡ r.name) (sp : q.space ≡ r.space) (hd : q.hides ≡ r.hides) (cn : q.count ≡ r.count - 1)
     (ps : drop r.next (params_of r.def.value) ≡ name ∷ drop q.next (params_of r.def.value)) where
-  -- the call, and the call behind its next argument
+  -- the call, and the call after its next argument
   pub call_front : call_of r ls ≡ record (call_of q (lists_after r.count ls)) { args = waiting_in r name ls ∷ (call_of q (lists_after r.count ls)).args }
   call_front =
       ap (λ l. record (call_of r ls) { args = waiting r.def.value l (take r.count ls) }) ps
@@ -324,7 +324,7 @@ module _ (macros : Macros) (here : Here) (r q : Replacing) (name : List ℕ) (ls
   weight_front = ap (λ c. weight c.args + length c.rest) call_front ∙ (omega arith)
 
   -- the same call, where these are the arguments before it
-  replacing_front : (m : Machine) (done : List Given) → lists m.slots ≡ ls →
+  replacing_front : (m : Machine) (done : List HeldArgument) → lists m.slots ≡ ls →
       replacing macros here m r done ≡ resume macros here m.frames.items (skip q (lists_after r.count ls)) (after (map marked m.out.items)
       (finishing macros here (record (call_of q (lists_after r.count ls)) { args = waiting_in r name ls ∷ (call_of q (lists_after r.count ls)).args }) (map argument_of done) m.work))
   replacing_front m done l =
@@ -344,7 +344,7 @@ module _ (macros : Macros) (here : Here) (r q : Replacing) (name : List ℕ) (ls
   not_expanded (suc k) true work e = cc
   not_expanded (suc k) false work e = refl
 
-  pub on_plain : (m n : Machine) (g : Given) (done more : List Given) → lists m.slots ≡ ls → wanted_in r.count (stands_free name false r.def.value.body) ≡ false →
+  pub on_plain : (m n : Machine) (g : HeldArgument) (done more : List HeldArgument) → lists m.slots ≡ ls → wanted_in r.count (stands_free name false r.def.value.body) ≡ false →
       lists n.slots ≡ lists_after r.count ls → n.out ≡ m.out → n.work ≡ m.work → n.frames ≡ m.frames → argument_of g ≡ given_of macros here (waiting_in r name ls) [] → more ≡ done ++ g ∷ [] →
       (replacing macros here n q more ≡ replacing macros here m r done) × (replacing_size n q < replacing_size m r)
   on_plain m n g done more l u i o k f a e =
@@ -379,7 +379,7 @@ module _ (macros : Macros) (here : Here) (r q : Replacing) (name : List ℕ) (ls
       ap (λ x. finishing macros here (call_of q (lists_after r.count ls)) (done ++ record { name = x; plain = map marked f.plain.items; expanded = list } ∷ []) work) fn
       ∙ finish_trimmed macros here (call_of q (lists_after r.count ls)) done name (map marked f.plain.items) (plain_of r.count ls) list work (ap (λ z. stands_bound name false z.value.body) d ∙ sym k)
 
-  pub on_wanted : (m n : Machine) (f : Frame) (done : List Given) → lists m.slots ≡ ls → wanted_in r.count (stands_free name false r.def.value.body) ≡ true →
+  pub on_wanted : (m n : Machine) (f : Frame) (done : List HeldArgument) → lists m.slots ≡ ls → wanted_in r.count (stands_free name false r.def.value.body) ≡ true →
       n.slots ≡ m.slots → n.out.items ≡ [] → n.work ≡ m.work → n.frames.items ≡ m.frames.items ++ f ∷ [] → m.work ≤ limit →
       f.out ≡ m.out → f.call ≡ q → f.done.items ≡ done → f.name ≡ name → (kept : Bool) → kept ≡ stands_bound name false r.def.value.body → map marked f.plain.items ≡ cond kept (first_list ls) [] →
       GoesOn macros here (replacing macros here m r done) (suc (replacing_size m r)) n
@@ -428,14 +428,14 @@ param_is o name left behind e p = subst (λ o. ParamAt o left behind) e p
 pub param_none : (o : Option (List ℕ)) (left behind : List (List ℕ)) → o ≡ None → ParamAt o left behind → left ≡ []
 param_none o left behind e p = subst (λ o. ParamAt o left behind) e p
 
-pub same_argument : (g : Given) (name : List ℕ) (plain : List Marked) → g.name ≡ name → map marked g.plain.items ≡ plain → g.expanded.items ≡ [] → argument_of g ≡ record { name = name; plain = plain; expanded = [] }
+pub same_argument : (g : HeldArgument) (name : List ℕ) (plain : List Marked) → g.name ≡ name → map marked g.plain.items ≡ plain → g.expanded.items ≡ [] → argument_of g ≡ record { name = name; plain = plain; expanded = [] }
 same_argument g name plain a b e = rw (a, b, e) refl
 
 pub on_head_fault : (macros : Macros) (here : Here) (m : Machine) (fault : ExpandFault) → (fault ≡ NoMemory) ⊎ (head_of macros here (first_list (lists m.slots)) ≡ Fails fault) → IsFaultOf fault (meaning macros here m)
 on_head_fault macros here m fault (inl e) = inl e
 on_head_fault macros here m fault (inr e) = inr (on_fault macros here m (lists m.slots) refl fault e)
 
-pub given_in : (f : Frame) (g : Given) (out : List Hidden) → g.name ≡ f.name → g.plain ≡ f.plain → g.expanded.items ≡ out → argument_of g ≡ argument_in f (map marked out)
+pub given_in : (f : Frame) (g : HeldArgument) (out : List HiddenToken) → g.name ≡ f.name → g.plain ≡ f.plain → g.expanded.items ≡ out → argument_of g ≡ argument_in f (map marked out)
 given_in f g out a b e = rw (a, b, e) refl
 
 pub at_start : (macros : Macros) (here : Here) (m : Machine) → m.out.items ≡ [] → m.frames.items ≡ [] → meaning macros here m ≡ expansion macros here (first_list (lists m.slots)) m.work

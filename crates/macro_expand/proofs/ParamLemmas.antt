@@ -1,4 +1,4 @@
--- Where a name stands in a replacement list.
+-- Where a name is in a replacement list.
 use Rattle.std.proofs.Common.{◌≡◌, ℕ, Bool, true, false, ◌||◌, List, [], ◌∷◌, sym, ap, ◌∙◌}
 use Rattle.pp_tokens.specs.declared.token.Token.{Token}
 use Rattle.macro_expand.specs.Calls.{is_operator, is_free, stands_free}

@@ -11,8 +11,8 @@ use Rattle.macro_expand.specs.declared.before.Before.TheVariants.{Else}
 use Rattle.macro_expand.specs.declared.fault.ExpandFault.{ExpandFault}
 use Rattle.macro_expand.specs.declared.fault.ExpandFault.TheVariants.{NoMemory}
 use Rattle.macro_table.specs.Definitions.{DefValue}
-use Rattle.macro_expand.specs.declared.cell.Cell.{Cell}
-use Rattle.macro_expand.specs.declared.hidden.Hidden.{Hidden}
+use Rattle.macro_expand.specs.declared.substitution.argument_pass.Cell.{Cell}
+use Rattle.macro_expand.specs.declared.hide_set.hidden_token.HiddenToken.{HiddenToken}
 use Rattle.macro_expand.specs.Marked.{Names, Marked, spaced, hiding, is_hash, is_paste}
 use Rattle.macro_expand.specs.Calls.{makes_string, paste_follows}
 use Rattle.macro_expand.specs.Substituted.{Argument, find_argument, Piece, front, with_else, word_of, token_put, put_in, join, is_joins, pasted_on, pasted, as_words, words, first_spaced, substituted}
@@ -155,12 +155,12 @@ words-append [] qs = refl
 words-append (p ∷ ps) qs = ap (λ l. as_words p ++ l) (words-append ps qs) ∙ sym (append_assoc (as_words p) (words ps) (words qs))
 
 -- the token of a piece more
-pub word_more : (list list2 : List Hidden) (before : List Cell) (o : Cell) → map marked list ≡ words (map piece_of before) → map marked list2 ≡ map marked list ++ as_words (piece_of o) → map marked list2 ≡ words (map piece_of (before ++ o ∷ []))
+pub word_more : (list list2 : List HiddenToken) (before : List Cell) (o : Cell) → map marked list ≡ words (map piece_of before) → map marked list2 ≡ map marked list ++ as_words (piece_of o) → map marked list2 ≡ words (map piece_of (before ++ o ∷ []))
 word_more list list2 before o v e =
     e ∙ ap (λ l. l ++ as_words (piece_of o)) v ∙ ap (λ l. words (map piece_of before) ++ l) (sym (append-nil (as_words (piece_of o))))
     ∙ sym (ap words (map_push piece_of before o) ∙ words-append (map piece_of before) (piece_of o ∷ []))
 
--- whether no token stands before
+-- whether there is no token before
 abbrev pub is_nil : {A : Type 0} → List A → Bool
 is_nil [] = true
 is_nil (x ∷ xs) = false
@@ -170,7 +170,7 @@ nil_push [] x = refl
 nil_push (y ∷ ys) x = refl
 
 -- a token more, of which the first gets the mark
-pub hidden_more : (hides : Names) (space first : Bool) (list list2 before : List Hidden) (h m k : Hidden) → map marked list ≡ map (hiding hides) (first_spaced space (map marked before)) → first ≡ is_nil before →
+pub hidden_more : (hides : Names) (space first : Bool) (list list2 before : List HiddenToken) (h m k : HiddenToken) → map marked list ≡ map (hiding hides) (first_spaced space (map marked before)) → first ≡ is_nil before →
     marked m ≡ cond first (spaced space (marked h)) (marked h) → marked k ≡ hiding hides (marked m) → list2 ≡ list ++ k ∷ [] → map marked list2 ≡ map (hiding hides) (first_spaced space (map marked (before ++ h ∷ [])))
 hidden_more hides space first list list2 [] h m k v f a b e =
     ap (map marked) e ∙ map_push marked list k ∙ ap (λ l. l ++ marked k ∷ []) v ∙ ap (λ z. z ∷ []) (b ∙ ap (hiding hides) (a ∙ ap (λ t. cond t (spaced space (marked h)) (marked h)) f))

@@ -7,7 +7,7 @@ use Rattle.std.proofs.lemmas.Bool.{cond-false}
 use Rattle.pp_tokens.specs.declared.token.Token.{Token}
 use Rattle.mac_base.specs.Input.{◌>>=◌}
 use Rattle.macro_expand.specs.declared.before.Before.TheVariants.{Else}
-use Rattle.macro_expand.specs.declared.hidden.Hidden.{Hidden}
+use Rattle.macro_expand.specs.declared.hide_set.hidden_token.HiddenToken.{HiddenToken}
 use Rattle.macro_table.specs.Definitions.{DefValue}
 use Rattle.macro_expand.specs.Marked.{Names, no_names, union, Marked, fresh, spaced, hiding, is_paste}
 use Rattle.macro_expand.specs.Substituted.{Argument, Word, front, with_else, put_in, pasted_on, pasted, words, first_spaced, substituted}
@@ -15,7 +15,7 @@ use Rattle.macro_expand.specs.States.{marked, hidden_names, has_paste, no_argume
 use Rattle.macro_expand.proofs.PassLemmas.{by_put, paste_plain, is_nil, nil_push}
 
 -- a token more, of which the first gets the mark
-copied_on : (hides : Names) (space first : Bool) (list list2 : List Hidden) (before : List Marked) (b : Marked) (k : Hidden) → map marked list ≡ map (hiding hides) (first_spaced space before) → first ≡ is_nil before →
+copied_on : (hides : Names) (space first : Bool) (list list2 : List HiddenToken) (before : List Marked) (b : Marked) (k : HiddenToken) → map marked list ≡ map (hiding hides) (first_spaced space before) → first ≡ is_nil before →
     marked k ≡ hiding hides (cond first (spaced space b) b) → list2 ≡ list ++ k ∷ [] → map marked list2 ≡ map (hiding hides) (first_spaced space (before ++ b ∷ []))
 copied_on hides space first list list2 [] b k v f a e =
     ap (map marked) e ∙ map_push marked list k ∙ ap (λ l. l ++ marked k ∷ []) v ∙ ap (λ z. z ∷ []) (a ∙ ap (λ t. hiding hides (cond t (spaced space b) b)) f)
@@ -23,12 +23,12 @@ copied_on hides space first list list2 (x ∷ xs) b k v f a e =
     ap (map marked) e ∙ map_push marked list k ∙ ap (λ l. l ++ marked k ∷ []) v ∙ ap (λ z. hiding hides (spaced space x) ∷ (map (hiding hides) xs ++ z ∷ [])) (a ∙ ap (λ t. hiding hides (cond t (spaced space b) b)) f)
     ∙ ap (λ l. hiding hides (spaced space x) ∷ l) (sym (map_push (hiding hides) xs b))
 
--- the first of some tokens has the mark, whether it gets it before or behind its names
+-- the first of some tokens has the mark, whether it gets it before or after its names
 marked_first : (first space : Bool) (hides : Names) (b : Marked) → cond first (spaced space (hiding hides b)) (hiding hides b) ≡ hiding hides (cond first (spaced space b) b)
 marked_first true space hides b = refl
 marked_first false space hides b = refl
 
-module _ (hides : Names) (space first : Bool) (list list2 : List Hidden) (before : List Token) (t : Token) (h m : Hidden) where
+module _ (hides : Names) (space first : Bool) (list list2 : List HiddenToken) (before : List Token) (t : Token) (h m : HiddenToken) where
   pub copied_more : map marked list ≡ map (hiding hides) (first_spaced space (map fresh before)) → first ≡ is_nil (map fresh before) → marked h ≡ hiding hides (fresh t) →
       marked m ≡ cond first (spaced space (marked h)) (marked h) → list2 ≡ list ++ m ∷ [] →
       map marked list2 ≡ map (hiding hides) (first_spaced space (map fresh (before ++ t ∷ [])))
@@ -45,7 +45,7 @@ none_more names = fun_ext (λ n. go (names n))
     go false = refl
 
 -- a copy of a token with these names
-pub copied : (h : Hidden) (t : Token) (names : Names) → h.token ≡ t → hidden_names h.hides ≡ names → marked h ≡ hiding names (fresh t)
+pub copied : (h : HiddenToken) (t : Token) (names : Names) → h.token ≡ t → hidden_names h.hides ≡ names → marked h ≡ hiding names (fresh t)
 copied h t names e f = ap (λ k. record { token = k; hides = hidden_names h.hides }) e ∙ ap (λ n. record { token = t; hides = n }) (f ∙ none_more names)
 
 pub begun : (before : List Token) (t : Token) → false ≡ is_nil (map fresh (before ++ t ∷ []))

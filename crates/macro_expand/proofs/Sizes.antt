@@ -3,7 +3,7 @@ use Rattle.std.proofs.Common.{◌≡◌, ℕ, suc, ◌+◌, ◌-◌, ◌<◌, �
 use Rattle.std.proofs.lemmas.Bool.{cond_both, eqb-true, leb-true}
 use Rattle.macro_expand.specs.declared.here.Here.{Here}
 use Rattle.macro_expand.specs.declared.fault.ExpandFault.TheVariants.{ArgCount}
-use Rattle.macro_expand.specs.Marked.{Marked, part_of}
+use Rattle.macro_expand.specs.Marked.{Marked, delimiter_of}
 use Rattle.macro_table.specs.Definitions.{DefValue}
 use Rattle.macro_expand.specs.Macros.{Macros, named_params, params_of}
 use Rattle.macro_expand.specs.Calls.{Closed, inside_too, ends_call, depth_behind, parts, closed, to_first, split, commas_of, arguments_of, arguments, fits, waiting}
@@ -24,8 +24,8 @@ pub closed_cut : (ms : List Marked) (depth : ℕ) → IsCut (length ms) (closed 
 unfolding closed
 closed_cut [] depth = tt
 closed_cut (m ∷ ms) depth =
-    cond_both (ends_call (part_of m.token) depth) (Some (record { inside = []; close = m; rest = ms })) (inside_too m (closed ms (depth_behind (part_of m.token) depth))) (IsCut (suc (length ms)))
-    (λ e. omega arith) (λ e. inside_too_cut m (length ms) (closed ms (depth_behind (part_of m.token) depth)) (closed_cut ms (depth_behind (part_of m.token) depth)))
+    cond_both (ends_call (delimiter_of m.token) depth) (Some (record { inside = []; close = m; rest = ms })) (inside_too m (closed ms (depth_behind (delimiter_of m.token) depth))) (IsCut (suc (length ms)))
+    (λ e. omega arith) (λ e. inside_too_cut m (length ms) (closed ms (depth_behind (delimiter_of m.token) depth)) (closed_cut ms (depth_behind (delimiter_of m.token) depth)))
 
 -- Split. Each part costs one more than its length.
 
@@ -50,8 +50,8 @@ pub split_cost : (ms : List Marked) (commas depth : ℕ) → IsSome' (split ms c
 unfolding split
 split_cost [] commas depth = (tt, omega arith)
 split_cost (m ∷ ms) commas depth =
-    let deep : ℕ = depth_behind (part_of m.token) depth in
-    cond_both (parts (part_of m.token) commas depth) ([] ∷ split ms (commas - 1) depth) (to_first m (split ms commas deep)) (λ as'. IsSome' as' × (cost as' ≤ suc (suc (length ms))))
+    let deep : ℕ = depth_behind (delimiter_of m.token) depth in
+    cond_both (parts (delimiter_of m.token) commas depth) ([] ∷ split ms (commas - 1) depth) (to_first m (split ms commas deep)) (λ as'. IsSome' as' × (cost as' ≤ suc (suc (length ms))))
     (λ e. (tt, omega (arith, (split_cost ms (commas - 1) depth).1)))
     (λ e. to_first_cost' m (split ms commas deep) (suc (length ms)) (split_cost ms commas deep))
 
@@ -95,7 +95,7 @@ macro_head_sized : (d : DefValue) (o : Option (List (List ℕ))) (m : Marked) (r
 macro_head_sized d None m rest = omega arith
 macro_head_sized d (Some params) m [] = omega arith
 macro_head_sized d (Some params) m (k ∷ ns) =
-    cond_both (is_opens (part_of k.token)) (call_head d m (closed ns 0)) (Stays m (k ∷ ns)) (IsSized (suc (suc (length ns))))
+    cond_both (is_opens (delimiter_of k.token)) (call_head d m (closed ns 0)) (Stays m (k ∷ ns)) (IsSized (suc (suc (length ns))))
     (λ e. call_head_sized d m (length ns) (closed ns 0) (closed_cut ns 0)) (λ e. omega arith)
 
 name_head_sized : (o : Option (Option DefValue)) (m : Marked) (rest : List Marked) → IsSized (suc (length rest)) (name_head o m rest)

@@ -4,15 +4,15 @@ use Rattle.std.proofs.lemmas.List.{map_push, set_split, take_more, take-set, dro
 use Rattle.std.proofs.lemmas.Bool.{cond-true, cond-false}
 use Rattle.std.proofs.Math.Seq.{drop-cons}
 use Rattle.pp_tokens.specs.declared.token.Token.{Token}
-use Rattle.macro_expand.specs.declared.hidden.Hidden.{Hidden}
-use Rattle.macro_expand.specs.declared.part.Part.{Part}
-use Rattle.macro_expand.specs.declared.part.Part.TheVariants.{Opens, Closes, Comma, Inner}
-use Rattle.macro_expand.specs.declared.slots.Slot.{Slot}
-use Rattle.macro_expand.specs.declared.slots.Slot.TheVariants as slot
-use Rattle.macro_expand.specs.Marked.{Marked, fresh, part_of}
+use Rattle.macro_expand.specs.declared.hide_set.hidden_token.HiddenToken.{HiddenToken}
+use Rattle.macro_expand.specs.declared.delimiter.Delimiter.{Delimiter}
+use Rattle.macro_expand.specs.declared.delimiter.Delimiter.TheVariants.{Opens, Closes, Comma, Inner}
+use Rattle.macro_expand.specs.declared.rescan.slots.Slot.{Slot}
+use Rattle.macro_expand.specs.declared.rescan.slots.Slot.TheVariants as slot
+use Rattle.macro_expand.specs.Marked.{Marked, fresh, delimiter_of}
 use Rattle.macro_expand.specs.Calls.{to_first, depth_behind, ends_call, parts, first_list, other_lists}
 use Rattle.macro_expand.specs.States.{backwards, marked}
-use Rattle.macro_expand.specs.Slots.{Place, Stands, Ends, place_of, lists_of, places, lists, in_front, first_part, place_part, place_hides, Opened, stands_too, ends_too, opened, passed}
+use Rattle.macro_expand.specs.Slots.{Place, Stands, Ends, place_of, lists_of, places, lists, in_front, first_delimiter, place_delimiter, place_hides, Opened, stands_too, ends_too, opened, passed}
 use Rattle.macro_expand.proofs.PassLemmas.{backwards_push}
 
 -- the top of the stack
@@ -28,7 +28,7 @@ top_end xs ys s e p = ap lists_of (top xs ys s e ∙ ap (λ q. q ∷ places ys) 
 pub ended : (ls old : List (List Marked)) → old ≡ [] ∷ ls → (first_list old ≡ []) × (ls ≡ other_lists old)
 ended ls old e = (ap first_list e, sym (ap other_lists e))
 
--- one token taken, in front of a first list
+-- one token taken, before a first list
 pub first_more : (m : Marked) (ls : List (List Marked)) → first_list (to_first m ls) ≡ m ∷ first_list ls
 first_more m [] = refl
 first_more m (a ∷ more) = refl
@@ -54,10 +54,10 @@ front_alone [] = refl
 front_alone (m ∷ ms) = ap (to_first m) (front_alone ms)
 
 -- a token goes from a list to the stack
-pub word_on : (xs ys : List Slot) (h : Hidden) (j : ℕ) → ys ≡ xs ++ slot.Word h j ∷ [] → lists ys ≡ to_first (marked h) (lists xs)
+pub word_on : (xs ys : List Slot) (h : HiddenToken) (j : ℕ) → ys ≡ xs ++ slot.Word h j ∷ [] → lists ys ≡ to_first (marked h) (lists xs)
 word_on xs ys h j e = top_word ys xs (slot.Word h j) (marked h) e refl
 
-pub back_one : (list list2 : List Hidden) (old new : List (List Marked)) (h : Hidden) → list ≡ list2 ++ h ∷ [] → new ≡ to_first (marked h) old → in_front (map marked list2) new ≡ in_front (map marked list) old
+pub back_one : (list list2 : List HiddenToken) (old new : List (List Marked)) (h : HiddenToken) → list ≡ list2 ++ h ∷ [] → new ≡ to_first (marked h) old → in_front (map marked list2) new ≡ in_front (map marked list) old
 back_one list list2 old new h e p =
     ap (in_front (map marked list2)) p ∙ sym (front_push (map marked list2) (marked h) old) ∙ ap (λ l. in_front l old) (sym (ap (map marked) e ∙ map_push marked list2 h))
 
@@ -72,13 +72,13 @@ list_one ms m old new first e v = append_assoc ms (m ∷ []) (first_list new) �
 pub list_end : (ms : List Marked) (old : List (List Marked)) (first : List Marked) → first_list old ≡ [] → ms ++ first_list old ≡ first → ms ≡ first
 list_end ms old first e v = sym (append-nil ms) ∙ ap (λ l. ms ++ l) (sym e) ∙ v
 
-pub copy_one : (list list2 : List Hidden) (h k : Hidden) (left rest : List Slot) (s : Slot) (first : List Marked) → marked k ≡ marked h → list2 ≡ list ++ k ∷ [] → left ≡ rest ++ s ∷ [] → place_of s ≡ Stands (marked h) → map marked list ++ first_list (lists left) ≡ first → map marked list2 ++ first_list (lists rest) ≡ first
+pub copy_one : (list list2 : List HiddenToken) (h k : HiddenToken) (left rest : List Slot) (s : Slot) (first : List Marked) → marked k ≡ marked h → list2 ≡ list ++ k ∷ [] → left ≡ rest ++ s ∷ [] → place_of s ≡ Stands (marked h) → map marked list ++ first_list (lists left) ≡ first → map marked list2 ++ first_list (lists rest) ≡ first
 copy_one list list2 h k left rest s first m e l p v =
     ap (λ l. l ++ first_list (lists rest)) (ap (map marked) e ∙ map_push marked list k ∙ ap (λ z. map marked list ++ z ∷ []) m)
     ∙ list_one (map marked list) (marked h) (lists left) (lists rest) first (top_word left rest s (marked h) l p) v
 
-pub next_is : (p : Place) (ps : List Place) → place_part p ≡ first_part (first_list (lists_of (p ∷ ps)))
-next_is (Stands m) ps = sym (ap first_part (first_more m (lists_of ps)))
+pub next_is : (p : Place) (ps : List Place) → place_delimiter p ≡ first_delimiter (first_list (lists_of (p ∷ ps)))
+next_is (Stands m) ps = sym (ap first_delimiter (first_more m (lists_of ps)))
 next_is Ends ps = refl
 
 -- The cut.
@@ -111,10 +111,10 @@ module _ (xs : List Slot) (i at : ℕ) (d s : Slot) (a : at ≡ i + 1) (h : i < 
       ap places (set_split xs i slot.End h ∙ ap (λ n. take i xs ++ slot.End ∷ drop n xs) e) ∙ backwards-append place_of (take i xs) (slot.End ∷ drop at xs) ∙ append_assoc (places (drop at xs)) (Ends ∷ []) (places (take i xs))
 
   -- what a part says of a place
-  pub word_there : (p : Place) (kind : Part) → place_part p ≡ Some kind → (m : Marked) × (p ≡ Stands m) × (part_of m.token ≡ kind)
-  word_there (Stands m) kind e = (m, refl, some_same (part_of m.token) kind e)
+  pub word_there : (p : Place) (kind : Delimiter) → place_delimiter p ≡ Some kind → (m : Marked) × (p ≡ Stands m) × (delimiter_of m.token ≡ kind)
+  word_there (Stands m) kind e = (m, refl, some_same (delimiter_of m.token) kind e)
     where
-      some_same : (a b : Part) → Some a ≡ Some b → a ≡ b
+      some_same : (a b : Delimiter) → Some a ≡ Some b → a ≡ b
       some_same a b e = cc
   word_there Ends kind e = cc
 
@@ -122,22 +122,22 @@ module _ (xs : List Slot) (i at : ℕ) (d s : Slot) (a : at ≡ i + 1) (h : i < 
     pub start : (p : Place) → place_of s ≡ p → passed n (places (drop at xs)) (opened (p ∷ places (take i xs)) commas depth) ≡ whole
     start p e = ap (λ l. passed n (places (drop at xs)) (opened l commas depth)) (sym (taken ∙ ap (λ q. q ∷ places (take i xs)) e)) ∙ v
 
-    pub cut_none : place_part (place_of s) ≡ None → whole ≡ None
+    pub cut_none : place_delimiter (place_of s) ≡ None → whole ≡ None
     cut_none e = go (place_of s) refl e
       where
-        go : (p : Place) → place_of s ≡ p → place_part p ≡ None → whole ≡ None
+        go : (p : Place) → place_of s ≡ p → place_delimiter p ≡ None → whole ≡ None
         go (Stands m) q e = cc
         go Ends q e = sym (start Ends q)
 
-    pub cut_here : (kind : Part) → place_part (place_of s) ≡ Some kind → ends_call kind depth ≡ true → whole ≡ Some (record { count = n + 1; close = place_hides (place_of s); places = places (set xs i slot.End) })
+    pub cut_here : (kind : Delimiter) → place_delimiter (place_of s) ≡ Some kind → ends_call kind depth ≡ true → whole ≡ Some (record { count = n + 1; close = place_hides (place_of s); places = places (set xs i slot.End) })
     cut_here kind e t =
         let w = word_there (place_of s) kind e in
         sym (start (Stands w.0) w.1)
-        ∙ ap (passed n (places (drop at xs))) (cond-true (ends_call (part_of w.0.token) depth) _ _ (ap (λ k. ends_call k depth) w.2 ∙ t))
+        ∙ ap (passed n (places (drop at xs))) (cond-true (ends_call (delimiter_of w.0.token) depth) _ _ (ap (λ k. ends_call k depth) w.2 ∙ t))
         ∙ ap (λ l. Some (record { count = n + 1; close = w.0.hides; places = l })) (sym set_places)
         ∙ ap (λ p. Some (record { count = n + 1; close = place_hides p; places = places (set xs i slot.End) })) (sym w.1)
 
-    pub cut_comma : (kind : Part) → place_part (place_of s) ≡ Some kind → ends_call kind depth ≡ false → parts kind commas depth ≡ true →
+    pub cut_comma : (kind : Delimiter) → place_delimiter (place_of s) ≡ Some kind → ends_call kind depth ≡ false → parts kind commas depth ≡ true →
         passed (n + 1) (places (drop i (set xs i slot.End))) (opened (places (take i (set xs i slot.End))) (commas - 1) depth) ≡ whole
     cut_comma kind e t c =
         let w = word_there (place_of s) kind e in
@@ -145,20 +145,20 @@ module _ (xs : List Slot) (i at : ℕ) (d s : Slot) (a : at ≡ i + 1) (h : i < 
         ap (λ l. passed (n + 1) (places l) (opened (places (take i (set xs i slot.End))) (commas - 1) depth)) (drop-set xs i slot.End h ∙ ap (λ k. slot.End ∷ drop k xs) e1)
         ∙ ap (λ l. passed (n + 1) (places (drop at xs) ++ Ends ∷ []) (opened (places l) (commas - 1) depth)) (take-set xs i slot.End)
         ∙ sym (passed_end n (places (drop at xs)) (opened (places (take i xs)) (commas - 1) depth))
-        ∙ ap (passed n (places (drop at xs))) (sym (cond-false (ends_call (part_of w.0.token) depth) _ _ (ap (λ k. ends_call k depth) w.2 ∙ t) ∙ cond-true (parts (part_of w.0.token) commas depth) _ _ (ap (λ k. parts k commas depth) w.2 ∙ c)))
+        ∙ ap (passed n (places (drop at xs))) (sym (cond-false (ends_call (delimiter_of w.0.token) depth) _ _ (ap (λ k. ends_call k depth) w.2 ∙ t) ∙ cond-true (parts (delimiter_of w.0.token) commas depth) _ _ (ap (λ k. parts k commas depth) w.2 ∙ c)))
         ∙ start (Stands w.0) w.1
 
-    pub cut_word : (kind : Part) (deep : ℕ) → place_part (place_of s) ≡ Some kind → ends_call kind depth ≡ false → parts kind commas depth ≡ false → deep ≡ depth_behind kind depth →
+    pub cut_word : (kind : Delimiter) (deep : ℕ) → place_delimiter (place_of s) ≡ Some kind → ends_call kind depth ≡ false → parts kind commas depth ≡ false → deep ≡ depth_behind kind depth →
         passed n (places (drop i xs)) (opened (places (take i xs)) commas deep) ≡ whole
     cut_word kind deep e t c k =
         let w = word_there (place_of s) kind e in
         ap (λ l. passed n l (opened (places (take i xs)) commas deep)) (dropped ∙ ap (λ p. places (drop at xs) ++ p ∷ []) w.1)
         ∙ sym (passed_stands n (places (drop at xs)) w.0 (opened (places (take i xs)) commas deep))
         ∙ ap (λ j. passed n (places (drop at xs)) (stands_too w.0 (opened (places (take i xs)) commas j))) (k ∙ ap (λ q. depth_behind q depth) (sym w.2))
-        ∙ ap (passed n (places (drop at xs))) (sym (cond-false (ends_call (part_of w.0.token) depth) _ _ (ap (λ q. ends_call q depth) w.2 ∙ t) ∙ cond-false (parts (part_of w.0.token) commas depth) _ _ (ap (λ q. parts q commas depth) w.2 ∙ c)))
+        ∙ ap (passed n (places (drop at xs))) (sym (cond-false (ends_call (delimiter_of w.0.token) depth) _ _ (ap (λ q. ends_call q depth) w.2 ∙ t) ∙ cond-false (parts (delimiter_of w.0.token) commas depth) _ _ (ap (λ q. parts q commas depth) w.2 ∙ c)))
         ∙ start (Stands w.0) w.1
 
-pub less_deep : (kind : Part) (deep depth i at n : ℕ) → deep ≡ depth_behind kind depth → at ≡ i + 1 → depth + at ≤ n → deep + i ≤ n
+pub less_deep : (kind : Delimiter) (deep depth i at n : ℕ) → deep ≡ depth_behind kind depth → at ≡ i + 1 → depth + at ≤ n → deep + i ≤ n
 less_deep Opens deep depth i at n e a h = omega arith
 less_deep Closes deep depth i at n e a h = omega arith
 less_deep Comma deep depth i at n e a h = omega arith

@@ -3,7 +3,7 @@ use Rattle.std.proofs.Common.{◌≡◌, ℕ, Bool, true, false, ◌||◌, not, 
 use Rattle.std.specs.List.{list_any}
 use Rattle.std.specs.declared.alloc.Global.{Global}
 use Rattle.pp_tokens.specs.declared.token.Token.{Token}
-use Rattle.macro_expand.specs.declared.hidden.Hidden.{Hidden}
+use Rattle.macro_expand.specs.declared.hide_set.hidden_token.HiddenToken.{HiddenToken}
 use Rattle.macro_expand.specs.declared.fault.ExpandFault.{ExpandFault}
 use Rattle.macro_expand.specs.declared.fault.ExpandFault.TheVariants.{NoMemory, OpenCall, ArgCount, BadPaste, BadString, BadDefinition, LoneQuote, TooLong}
 use Rattle.macro_expand.specs.declared.here.Here.{Here}
@@ -16,7 +16,7 @@ use Rattle.macro_expand.specs.States.{marked}
 use Rattle.macro_expand.specs.Machine.{AnswersList}
 use Rattle.macro_expand.specs.Answering.{IsAnswer}
 
-pub tokens_same : (list : List Hidden) → map (λ (m : Marked). m.token) (map marked list) ≡ map (λ (h : Hidden). h.token) list
+pub tokens_same : (list : List HiddenToken) → map (λ (m : Marked). m.token) (map marked list) ≡ map (λ (h : HiddenToken). h.token) list
 tokens_same [] = refl
 tokens_same (h ∷ hs) = ap (λ l. h.token ∷ l) (tokens_same hs)
 
@@ -40,7 +40,7 @@ module _ (Lists : List Marked → ℕ → Answer → Type 0) (go : List Marked �
   scanned : (answer : Answer) → go (first_list ls) 0 ≡ answer → Whole Lists tokens (tokens_of answer)
   scanned answer e = Scanned l (subst (λ a. Lists (map fresh tokens) 0 a) (ap (λ x. go (first_list x) 0) (sym s) ∙ e) (complete (map fresh tokens) 0))
 
-  pub exact_ok : (list : Vec Hidden Global) (all : List Token) → AnswersList (Ok list) (go (first_list ls) 0) → all ≡ map (λ (h : Hidden). h.token) list.items → Whole Lists tokens (Ok all)
+  pub exact_ok : (list : Vec HiddenToken Global) (all : List Token) → AnswersList (Ok list) (go (first_list ls) 0) → all ≡ map (λ (h : HiddenToken). h.token) list.items → Whole Lists tokens (Ok all)
   exact_ok list all a e = by (go (first_list ls) 0) refl a
     where
       by : (answer : Answer) → go (first_list ls) 0 ≡ answer → AnswersList (Ok list) answer → Whole Lists tokens (Ok all)

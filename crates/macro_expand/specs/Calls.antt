@@ -1,32 +1,32 @@
 -- The arguments of a call of a function-like macro (C17 6.10.3 p10 to p12).
 use Rattle.std.specs.Prelude.{ℕ, ◌+◌, ◌-◌, nat_eq, nat_le, Bool, true, false, ◌&&◌, ◌||◌, not, if◌then◌else◌, List, [], ◌∷◌, length, Option, Some, None}
 use Rattle.pp_tokens.specs.declared.token.Token.{Token}
-use Rattle.macro_expand.specs.declared.part.Part.{Part}
-use Rattle.macro_expand.specs.declared.part.Part.TheVariants.{Opens, Closes, Comma, Inner}
-use Rattle.macro_expand.specs.Marked.{Marked, is_named, is_hash, is_paste, part_of}
+use Rattle.macro_expand.specs.declared.delimiter.Delimiter.{Delimiter}
+use Rattle.macro_expand.specs.declared.delimiter.Delimiter.TheVariants.{Opens, Closes, Comma, Inner}
+use Rattle.macro_expand.specs.Marked.{Marked, is_named, is_hash, is_paste, delimiter_of}
 use Rattle.macro_table.specs.Definitions.{DefValue}
 use Rattle.macro_expand.specs.Macros.{named_params}
 
--- what stands before the parenthesis that closes a call, that parenthesis, and what follows it
+-- what is before the parenthesis that closes a call, that parenthesis, and what follows it
 pub record Closed : Type 0 where
   pub inside : List Marked
   pub close : Marked
   pub rest : List Marked
 
--- the same with a token more in front
+-- the same with one token more before it
 abbrev pub inside_too : Marked → Option Closed → Option Closed
 inside_too m None = None
 inside_too m (Some c) = Some (record { inside = m ∷ c.inside; close = c.close; rest = c.rest })
 
--- how deep in parentheses the tokens behind this one stand
-abbrev pub depth_behind : Part → ℕ → ℕ
+-- how deep in parentheses the tokens after this one are
+abbrev pub depth_behind : Delimiter → ℕ → ℕ
 depth_behind Opens depth = depth + 1
 depth_behind Closes depth = depth - 1
 depth_behind Comma depth = depth
 depth_behind Inner depth = depth
 
 -- whether a token at this depth closes the call
-abbrev pub ends_call : Part → ℕ → Bool
+abbrev pub ends_call : Delimiter → ℕ → Bool
 ends_call Closes depth = nat_eq depth 0
 ends_call Opens depth = false
 ends_call Comma depth = false
@@ -36,8 +36,8 @@ ends_call Inner depth = false
 unfoldable pub closed : List Marked → ℕ → Option Closed
 closed [] depth = None
 closed (m ∷ ms) depth =
-    if ends_call (part_of m.token) depth then Some (record { inside = []; close = m; rest = ms })
-    else inside_too m (closed ms (depth_behind (part_of m.token) depth))
+    if ends_call (delimiter_of m.token) depth then Some (record { inside = []; close = m; rest = ms })
+    else inside_too m (closed ms (depth_behind (delimiter_of m.token) depth))
 
 -- the token is the first of the first list
 abbrev pub to_first : Marked → List (List Marked) → List (List Marked)
@@ -45,20 +45,20 @@ to_first m [] = (m ∷ []) ∷ []
 to_first m (a ∷ more) = (m ∷ a) ∷ more
 
 -- whether a token at this depth, with so many commas left, parts two arguments
-abbrev pub parts : Part → ℕ → ℕ → Bool
+abbrev pub parts : Delimiter → ℕ → ℕ → Bool
 parts Comma commas depth = nat_eq depth 0 && not (nat_eq commas 0)
 parts Opens commas depth = false
 parts Closes commas depth = false
 parts Inner commas depth = false
 
--- the lists between the commas that stand in no inner parentheses, of which the first so many count (p11)
+-- the lists between the commas that are in no inner parentheses, of which the first so many count (p11)
 unfoldable pub split : List Marked → ℕ → ℕ → List (List Marked)
 split [] commas depth = [] ∷ []
 split (m ∷ ms) commas depth =
-    if parts (part_of m.token) commas depth then [] ∷ split ms (commas - 1) depth
-    else to_first m (split ms commas (depth_behind (part_of m.token) depth))
+    if parts (delimiter_of m.token) commas depth then [] ∷ split ms (commas - 1) depth
+    else to_first m (split ms commas (depth_behind (delimiter_of m.token) depth))
 
--- how many commas can part the arguments of a call: behind the named parameters a variadic macro takes all that is left as one (p12)
+-- how many commas can part the arguments of a call: after the named parameters a variadic macro takes all that is left as one (p12)
 abbrev pub commas_of : DefValue → List Marked → ℕ
 commas_of d inside = if d.variadic then length (named_params d) else length inside
 
@@ -110,7 +110,7 @@ abbrev pub first_list : List (List Marked) → List Marked
 first_list [] = []
 first_list (a ∷ more) = a
 
--- those behind the first
+-- those after the first
 abbrev pub other_lists : List (List Marked) → List (List Marked)
 other_lists [] = []
 other_lists (a ∷ more) = more

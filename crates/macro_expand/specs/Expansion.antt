@@ -36,7 +36,7 @@ each expand (a ∷ more) work = do
   others ← each expand more first.1
   Ok (record { name = a.name; plain = a.plain; expanded = first.0 } ∷ others.0, others.1)
 
--- The expansion of a list with this head, where `go` expands the lists behind it. What replaces a name goes before what follows the name, and both are expanded together (6.10.3.4 p1); its length is work.
+-- The expansion of a list with this head, where `go` expands the lists after it. What replaces a name goes before what follows the name, and both are expanded together (6.10.3.4 p1); its length is work.
 abbrev pub step_from : (List Marked → ℕ → Answer) → Head → ℕ → Answer
 step_from go Finished work = Ok ([], work)
 step_from go (Stays m rest) work = after (m ∷ []) (go rest work)
@@ -64,7 +64,7 @@ abbrev pub as_written : List Waiting → List Argument
 as_written [] = []
 as_written (a ∷ more) = record { name = a.name; plain = a.plain; expanded = a.plain } ∷ as_written more
 
--- A single level: the list that replaces a name stands in the answer, and only what follows the name goes on.
+-- A single level: the list that replaces a name is in the answer, and only what follows the name goes on.
 abbrev pub once_from : (List Marked → ℕ → Answer) → Head → ℕ → Answer
 once_from go Finished work = Ok ([], work)
 once_from go (Stays m rest) work = after (m ∷ []) (go rest work)
@@ -92,6 +92,6 @@ abbrev pub tokens_of : Answer → Result (List Token) ExpandFault
 tokens_of (Ok r) = Ok (map (λ m. m.token) r.0)
 tokens_of (Err fault) = Err fault
 
--- what a text expands to, by the answer for lists: a quote that nothing closes is refused before all else
+-- what a text expands to, by the answer for lists: a quote that nothing closes is rejected before all else
 abbrev pub whole : (List Marked → ℕ → Answer) → List Token → Result (List Token) ExpandFault
 whole go tokens = if has_lone_quote tokens then Err LoneQuote else tokens_of (go (map fresh tokens) 0)

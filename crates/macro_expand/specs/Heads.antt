@@ -1,13 +1,13 @@
--- What stands at the head of a list of tokens: the cases of expansion on the first token (C17 6.10.3 p9 and p10, 6.10.3.4, 6.10.8.1).
+-- What is at the head of a list of tokens: the cases of expansion on the first token (C17 6.10.3 p9 and p10, 6.10.3.4, 6.10.8.1).
 use Rattle.std.specs.Prelude.{ℕ, nat_eq, Bool, true, false, ◌||◌, not, if◌then◌else◌, List, [], ◌∷◌, ◌++◌, length, flat_map, codes, bytes_eq, decimal, Option, Some, None}
 use Rattle.pp_tokens.specs.declared.token.Kind.{Kind}
 use Rattle.pp_tokens.specs.declared.token.Kind.TheVariants.{Number, Str}
 use Rattle.macro_expand.specs.declared.here.Here.{Here}
 use Rattle.macro_expand.specs.declared.fault.ExpandFault.{ExpandFault}
 use Rattle.macro_expand.specs.declared.fault.ExpandFault.TheVariants.{OpenCall, ArgCount, BadDefinition}
-use Rattle.macro_expand.specs.declared.part.Part.{Part}
-use Rattle.macro_expand.specs.declared.part.Part.TheVariants.{Opens, Closes, Comma, Inner}
-use Rattle.macro_expand.specs.Marked.{Names, with_name, intersection, Marked, is_identifier, part_of}
+use Rattle.macro_expand.specs.declared.delimiter.Delimiter.{Delimiter}
+use Rattle.macro_expand.specs.declared.delimiter.Delimiter.TheVariants.{Opens, Closes, Comma, Inner}
+use Rattle.macro_expand.specs.Marked.{Names, with_name, intersection, Marked, is_identifier, delimiter_of}
 use Rattle.macro_table.specs.Definitions.{DefValue}
 use Rattle.macro_expand.specs.Macros.{Macros, params_of}
 use Rattle.macro_expand.specs.Calls.{Closed, closed, arguments, fits, Waiting, waiting}
@@ -21,7 +21,7 @@ pub record Call : Type 0 where
   pub args : List Waiting
   pub rest : List Marked
 
--- what stands at the head of a list
+-- what is at the head of a list
 pub data Head : Type 0 where
   -- the list is empty
   Finished : Head
@@ -64,7 +64,7 @@ call_head d m (Some c) =
     if fits d count then Replaced (function_call d m c) else Fails (ArgCount m.token.text count)
 
 -- whether this is `(`
-abbrev pub is_opens : Part → Bool
+abbrev pub is_opens : Delimiter → Bool
 is_opens Opens = true
 is_opens Closes = false
 is_opens Comma = false
@@ -73,7 +73,7 @@ is_opens Inner = false
 -- whether the next token is `(`
 abbrev pub opens : List Marked → Bool
 opens [] = false
-opens (m ∷ ms) = is_opens (part_of m.token)
+opens (m ∷ ms) = is_opens (delimiter_of m.token)
 
 -- what follows the next token
 abbrev pub behind : List Marked → List Marked
@@ -102,7 +102,7 @@ seen_head macros here m rest =
 abbrev pub is_kept : Marked → Bool
 is_kept m = not (is_identifier m.token.kind) || m.hides m.token.text
 
--- what stands at the head of a list
+-- what is at the head of a list
 abbrev pub head_of : Macros → Here → List Marked → Head
 head_of macros here [] = Finished
 head_of macros here (m ∷ rest) = if is_kept m then Stays m rest else seen_head macros here m rest

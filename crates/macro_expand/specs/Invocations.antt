@@ -1,7 +1,7 @@
 -- The tokens of a call of a function-like macro and its arguments, in the words of the standard (C17 6.10.3 p10 to p12); and that `closed` and `arguments`, which count, find exactly these.
 use Rattle.std.specs.Prelude.{ℕ, zero, suc, ◌≡◌, ◌↔◌, if◌then◌else◌, List, [], ◌∷◌, ◌++◌, length, Option, Some, None}
-use Rattle.macro_expand.specs.declared.part.Part.TheVariants.{Opens, Closes, Comma, Inner}
-use Rattle.macro_expand.specs.Marked.{Marked, part_of}
+use Rattle.macro_expand.specs.declared.delimiter.Delimiter.TheVariants.{Opens, Closes, Comma, Inner}
+use Rattle.macro_expand.specs.Marked.{Marked, delimiter_of}
 use Rattle.macro_table.specs.Definitions.{DefValue}
 use Rattle.macro_expand.specs.Macros.{named_params}
 use Rattle.macro_expand.specs.Calls.{Closed, closed, arguments}
@@ -9,24 +9,24 @@ use Rattle.macro_expand.specs.Calls.{Closed, closed, arguments}
 -- tokens whose parentheses match: none; a token that is no parenthesis, and such tokens after it; or `(`, such tokens, the `)` that matches it, and such tokens after it
 pub data IsBalanced : List Marked → Type 0 where
   Nothing : IsBalanced []
-  Plain : {m : Marked} {ms : List Marked} → part_of m.token ≡ Inner → IsBalanced ms → IsBalanced (m ∷ ms)
-  Separator : {m : Marked} {ms : List Marked} → part_of m.token ≡ Comma → IsBalanced ms → IsBalanced (m ∷ ms)
+  Plain : {m : Marked} {ms : List Marked} → delimiter_of m.token ≡ Inner → IsBalanced ms → IsBalanced (m ∷ ms)
+  Separator : {m : Marked} {ms : List Marked} → delimiter_of m.token ≡ Comma → IsBalanced ms → IsBalanced (m ∷ ms)
   Pair : {opening : Marked} (inner : List Marked) (closing : Marked) (after : List Marked) →
-      part_of opening.token ≡ Opens → IsBalanced inner → part_of closing.token ≡ Closes → IsBalanced after →
+      delimiter_of opening.token ≡ Opens → IsBalanced inner → delimiter_of closing.token ≡ Closes → IsBalanced after →
       IsBalanced (opening ∷ inner ++ closing ∷ after)
 
 -- The list after the `(` of a call is cut so: what is inside, the `)` that matches, where matched pairs of parentheses in between are skipped, and what follows (p10).
 pub record IsCallIn (list : List Marked) (c : Closed) : Type 0 where
   pub tokens : list ≡ c.inside ++ c.close ∷ c.rest
   pub balanced : IsBalanced c.inside
-  pub matching : part_of c.close.token ≡ Closes
+  pub matching : delimiter_of c.close.token ≡ Closes
 
 -- a single argument: no comma but between matching inner parentheses (p11)
 pub data IsItem : List Marked → Type 0 where
   Empty : IsItem []
-  Token : {m : Marked} {ms : List Marked} → part_of m.token ≡ Inner → IsItem ms → IsItem (m ∷ ms)
+  Token : {m : Marked} {ms : List Marked} → delimiter_of m.token ≡ Inner → IsItem ms → IsItem (m ∷ ms)
   Group : {opening : Marked} (inner : List Marked) (closing : Marked) (after : List Marked) →
-      part_of opening.token ≡ Opens → IsBalanced inner → part_of closing.token ≡ Closes → IsItem after →
+      delimiter_of opening.token ≡ Opens → IsBalanced inner → delimiter_of closing.token ≡ Closes → IsItem after →
       IsItem (opening ∷ inner ++ closing ∷ after)
 
 -- arguments, and the comma between each two
@@ -42,7 +42,7 @@ tokens_in (More a comma others) = a ++ comma ∷ tokens_in others
 -- single arguments that commas separate (p11)
 abbrev pub IsArgumentList : ArgumentList → Type 0
 IsArgumentList (Last a) = IsItem a
-IsArgumentList (More a comma others) = IsItem a × (part_of comma.token ≡ Comma) × IsArgumentList others
+IsArgumentList (More a comma others) = IsItem a × (delimiter_of comma.token ≡ Comma) × IsArgumentList others
 
 -- each argument by itself
 abbrev pub each_item : ArgumentList → List (List Marked)

@@ -1,9 +1,9 @@
--- A single level, as the code goes through it.
+-- Private to the code, cited by no public contract. A single level, as the code goes through it.
 use Rattle.std.specs.Prelude.{◌≡◌, ℕ, ◌<◌, ◌≤◌, Bool, true, false, List, map, length, Result, Ok}
 use Rattle.macro_expand.specs.declared.here.Here.{Here}
 use Rattle.macro_expand.specs.declared.fault.ExpandFault.{ExpandFault}
-use Rattle.macro_expand.specs.declared.head.Replacing.{Replacing}
-use Rattle.macro_expand.specs.declared.once.Level.{Level}
+use Rattle.macro_expand.specs.declared.rescan.head.MacroCall.{MacroCall}
+use Rattle.macro_expand.specs.declared.rescan.once.Level.{Level}
 use Rattle.macro_expand.specs.Marked.{Marked}
 use Rattle.macro_expand.specs.Macros.{Macros}
 use Rattle.macro_expand.specs.Calls.{first_list}
@@ -23,14 +23,14 @@ abbrev pub level_meaning : Macros → Here → Level → Answer
 level_meaning macros here l = after (map marked l.out.items) (single_level macros here (first_list (lists l.slots)) l.work)
 
 -- the same where a name before the lists is being replaced
-abbrev pub level_replacing : Macros → Here → Level → Replacing → Answer
+abbrev pub level_replacing : Macros → Here → Level → MacroCall → Answer
 level_replacing macros here l r = after (map marked l.out.items) (once_from (single_level macros here) (Replaced (call_of r (lists l.slots))) l.work)
 
 -- how many tokens are left
 abbrev pub level_size : Level → ℕ
 level_size l = length (first_list (lists l.slots))
 
--- the code went on to a place that is below a bound and stands for this
+-- the code went on to a place that is below a bound and means this
 pub record LevelGoesOn (macros : Macros) (here : Here) (answer : Answer) (bound : ℕ) (l : Level) : Type 0 where
   pub same : level_meaning macros here l ≡ answer
   pub less : level_size l < bound

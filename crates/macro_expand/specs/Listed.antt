@@ -1,4 +1,4 @@
--- Names whose texts stand one behind the other.
+-- Private to the code, cited by no public contract. Names whose texts are one after the other.
 use Rattle.std.specs.Prelude.{ℕ, List, [], ◌∷◌, take, drop}
 
 -- the names in a text, by their lengths

@@ -5,8 +5,8 @@ use Rattle.pp_tokens.specs.declared.token.Kind.{Kind}
 use Rattle.pp_tokens.specs.declared.token.Kind.TheVariants.{Identifier, Number, Char, Str, Punct, Header, LoneQuote, Other}
 use Rattle.pp_tokens.specs.Cleaning.{on_line_one, first_nul}
 use Rattle.pp_tokens.specs.Kinds.{kind_of}
-use Rattle.macro_expand.specs.declared.part.Part.{Part}
-use Rattle.macro_expand.specs.declared.part.Part.TheVariants.{Opens, Closes, Comma, Inner}
+use Rattle.macro_expand.specs.declared.delimiter.Delimiter.{Delimiter}
+use Rattle.macro_expand.specs.declared.delimiter.Delimiter.TheVariants.{Opens, Closes, Comma, Inner}
 
 -- a set of names, as the test of its members
 abbrev pub Names : Type 0
@@ -106,8 +106,8 @@ abbrev pub is_paste : Token → Bool
 is_paste t = spells (codes "##") t || spells (codes "%:%:") t
 
 -- what a token is to the arguments of a call
-abbrev pub part_of : Token → Part
-part_of t = if spells (codes "(") t then Opens else (if spells (codes ")") t then Closes else (if spells (codes ",") t then Comma else Inner))
+abbrev pub delimiter_of : Token → Delimiter
+delimiter_of t = if spells (codes "(") t then Opens else (if spells (codes ")") t then Closes else (if spells (codes ",") t then Comma else Inner))
 
 -- this kind, where it is one of a token; a quote that nothing closes is none
 abbrev pub sound_kind : Option Kind → Option Kind

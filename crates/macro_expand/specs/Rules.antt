@@ -1,10 +1,10 @@
--- What a list of tokens expands to, as rules in the words of C17 6.10.3.1 to 6.10.3.4, apart from any order of computing.
+-- What a list of tokens expands to, as rules in the words of C17 6.10.3.1 to 6.10.3.4. Arguments are expanded from left to right, so that the first fault is answered; the list that replaces a name is a function, in the three passes of `Substituted`.
 use Rattle.std.specs.Prelude.{◌≡◌, ℕ, ◌+◌, ◌≤◌, ◌<◌, true, false, List, [], ◌∷◌, ◌++◌, length, codes, bytes_eq, map, Some, None, Result, Ok, Err}
 use Rattle.pp_tokens.specs.declared.token.Token.{Token}
 use Rattle.macro_expand.specs.declared.here.Here.{Here}
 use Rattle.macro_expand.specs.declared.fault.ExpandFault.{ExpandFault}
 use Rattle.macro_expand.specs.declared.fault.ExpandFault.TheVariants.{OpenCall, ArgCount, BadDefinition, LoneQuote, TooLong}
-use Rattle.macro_expand.specs.Marked.{Marked, fresh, part_of}
+use Rattle.macro_expand.specs.Marked.{Marked, fresh, delimiter_of}
 use Rattle.macro_table.specs.Definitions.{DefValue}
 use Rattle.macro_expand.specs.Macros.{Macros}
 use Rattle.macro_expand.specs.Calls.{Closed, closed, arguments, fits, Waiting}
@@ -32,7 +32,7 @@ pub record IsFunction (macros : Macros) (m : Marked) (d : DefValue) : Type 0 whe
 -- the next token isn't `(`, or there is none
 abbrev pub NoParenthesis : List Marked → Type 0
 NoParenthesis [] = Unit {0}
-NoParenthesis (n ∷ ns) = is_opens (part_of n.token) ≡ false
+NoParenthesis (n ∷ ns) = is_opens (delimiter_of n.token) ≡ false
 
 -- HasHead macros here list head: what the first token is
 pub data HasHead (macros : Macros) (here : Here) : List Marked → Head → Type 0 where
@@ -58,13 +58,13 @@ pub data HasHead (macros : Macros) (here : Here) : List Marked → Head → Type
       IsFunction macros m d → NoParenthesis rest → HasHead macros here (m ∷ rest) (Stays m rest)
   -- 8: a function-like macro that is called: the call is not closed, or has another number of arguments (6.10.3 p4), or is replaced
   Open : {m n : Marked} {rest : List Marked} {d : DefValue} →
-      IsFunction macros m d → is_opens (part_of n.token) ≡ true → closed rest 0 ≡ None →
+      IsFunction macros m d → is_opens (delimiter_of n.token) ≡ true → closed rest 0 ≡ None →
       HasHead macros here (m ∷ n ∷ rest) (Fails (OpenCall m.token.text))
   Count : {m n : Marked} {rest : List Marked} {d : DefValue} {c : Closed} →
-      IsFunction macros m d → is_opens (part_of n.token) ≡ true → closed rest 0 ≡ Some c → fits d (length (arguments d c.inside)) ≡ false →
+      IsFunction macros m d → is_opens (delimiter_of n.token) ≡ true → closed rest 0 ≡ Some c → fits d (length (arguments d c.inside)) ≡ false →
       HasHead macros here (m ∷ n ∷ rest) (Fails (ArgCount m.token.text (length (arguments d c.inside))))
   Called : {m n : Marked} {rest : List Marked} {d : DefValue} {c : Closed} →
-      IsFunction macros m d → is_opens (part_of n.token) ≡ true → closed rest 0 ≡ Some c → fits d (length (arguments d c.inside)) ≡ true →
+      IsFunction macros m d → is_opens (delimiter_of n.token) ≡ true → closed rest 0 ≡ Some c → fits d (length (arguments d c.inside)) ≡ true →
       HasHead macros here (m ∷ n ∷ rest) (Replaced (function_call d m c))
 
 mutual
@@ -77,7 +77,7 @@ mutual
     Puts : {list : List Marked} {c : Call} {work : ℕ} {answer : Answer} →
         HasHead macros here list (Replaced c) → Replaces macros here c work answer → Expands macros here list work answer
 
-  -- a replacement: the arguments are expanded (6.10.3.1), the list is made, its length is added to the work, and it is expanded with what follows the name behind it (6.10.3.4 p1)
+  -- a replacement: the arguments are expanded (6.10.3.1), the list is made, its length is added to the work, and it is expanded with what follows the name after it (6.10.3.4 p1)
   pub data Replaces (macros : Macros) (here : Here) : Call → ℕ → Answer → Type 0 where
     ArgumentFails : {c : Call} {work : ℕ} {fault : ExpandFault} →
         Arguments macros here c.args work (Err fault) → Replaces macros here c work (Err fault)
@@ -103,7 +103,7 @@ mutual
         IsArgument macros here a work list behind → Arguments macros here more behind (Ok (args, final)) →
         Arguments macros here (a ∷ more) work (Ok (record { name = a.name; plain = a.plain; expanded = list } ∷ args, final))
 
-  -- what one argument expands to, and the work behind it
+  -- what one argument expands to, and the work after it
   pub data IsArgument (macros : Macros) (here : Here) : Waiting → ℕ → List Marked → ℕ → Type 0 where
     Wanted : {a : Waiting} {work behind : ℕ} {list : List Marked} →
         a.wanted ≡ true → Expands macros here a.plain work (Ok (list, behind)) → IsArgument macros here a work list behind
@@ -126,7 +126,7 @@ pub data ExpandsOnce (macros : Macros) (here : Here) : List Marked → ℕ → A
       work + length put ≤ limit → ExpandsOnce macros here c.rest (work + length put) answer →
       ExpandsOnce macros here list work (after put answer)
 
--- what a text expands to, where this is what lists expand to: a quote that nothing closes is refused before all else
+-- what a text expands to, where this is what lists expand to: a quote that nothing closes is rejected before all else
 pub data Whole (Lists : List Marked → ℕ → Answer → Type 0) (tokens : List Token) : Result (List Token) ExpandFault → Type 0 where
   Lone : has_lone_quote tokens ≡ true → Whole Lists tokens (Err LoneQuote)
   Scanned : {answer : Answer} → has_lone_quote tokens ≡ false → Lists (map fresh tokens) 0 answer → Whole Lists tokens (tokens_of answer)

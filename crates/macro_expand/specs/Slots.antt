@@ -1,11 +1,11 @@
--- The lists of tokens that wait, one behind another, as the code's stack holds them.
+-- Private to the code, cited by no public contract. The lists of tokens that wait, one after another, as the code's stack holds them.
 use Rattle.std.specs.Prelude.{ℕ, zero, suc, ◌+◌, ◌-◌, ◌≡◌, ◌≤◌, ◌⊎◌, Bool, true, false, map, if◌then◌else◌, List, [], ◌∷◌, ◌++◌, Option, Some, None}
-use Rattle.macro_expand.specs.declared.slots.Slot.{Slot}
-use Rattle.macro_expand.specs.declared.slots.Slot.TheVariants as slot
-use Rattle.macro_expand.specs.declared.slots.Cut.{Cut}
-use Rattle.macro_expand.specs.declared.part.Part.{Part}
-use Rattle.macro_expand.specs.declared.part.Part.TheVariants.{Opens}
-use Rattle.macro_expand.specs.Marked.{Names, no_names, Marked, part_of}
+use Rattle.macro_expand.specs.declared.rescan.slots.Slot.{Slot}
+use Rattle.macro_expand.specs.declared.rescan.slots.Slot.TheVariants as slot
+use Rattle.macro_expand.specs.declared.rescan.slots.Cut.{Cut}
+use Rattle.macro_expand.specs.declared.delimiter.Delimiter.{Delimiter}
+use Rattle.macro_expand.specs.declared.delimiter.Delimiter.TheVariants.{Opens}
+use Rattle.macro_expand.specs.Marked.{Names, no_names, Marked, delimiter_of}
 use Rattle.macro_expand.specs.Calls.{to_first, depth_behind, ends_call, parts, first_list, other_lists}
 use Rattle.macro_expand.specs.States.{backwards, marked, hidden_names}
 
@@ -44,14 +44,14 @@ Takes (Some m) old new = old ≡ to_first m new
 Takes None old new = (first_list old ≡ []) × (new ≡ other_lists old)
 
 -- what the next token of a list is to the arguments of a call
-abbrev pub first_part : List Marked → Option Part
-first_part [] = None
-first_part (m ∷ ms) = Some (part_of m.token)
+abbrev pub first_delimiter : List Marked → Option Delimiter
+first_delimiter [] = None
+first_delimiter (m ∷ ms) = Some (delimiter_of m.token)
 
 -- what a place is to the arguments of a call
-abbrev pub place_part : Place → Option Part
-place_part (Stands m) = Some (part_of m.token)
-place_part Ends = None
+abbrev pub place_delimiter : Place → Option Delimiter
+place_delimiter (Stands m) = Some (delimiter_of m.token)
+place_delimiter Ends = None
 
 -- the names that the token of a place hides
 abbrev pub place_hides : Place → Names
@@ -74,16 +74,16 @@ abbrev pub ends_too : Option Opened → Option Opened
 ends_too None = None
 ends_too (Some o) = Some (record { count = o.count + 1; close = o.close; places = Ends ∷ o.places })
 
--- the stack behind the `(` of a call, where each comma that parts two arguments and the parenthesis that closes become ends of lists
+-- the stack after the `(` of a call, where each comma that parts two arguments and the parenthesis that closes become ends of lists
 abbrev pub opened : List Place → ℕ → ℕ → Option Opened
 opened [] commas depth = None
 opened (Ends ∷ ps) commas depth = None
 opened (Stands m ∷ ps) commas depth =
-    if ends_call (part_of m.token) depth then Some (record { count = 1; close = m.hides; places = Ends ∷ ps })
-    else (if parts (part_of m.token) commas depth then ends_too (opened ps (commas - 1) depth)
-    else stands_too m (opened ps commas (depth_behind (part_of m.token) depth)))
+    if ends_call (delimiter_of m.token) depth then Some (record { count = 1; close = m.hides; places = Ends ∷ ps })
+    else (if parts (delimiter_of m.token) commas depth then ends_too (opened ps (commas - 1) depth)
+    else stands_too m (opened ps commas (depth_behind (delimiter_of m.token) depth)))
 
--- the same behind places that were passed, with so many commas among them
+-- the same after places that were passed, with so many commas among them
 abbrev pub passed : ℕ → List Place → Option Opened → Option Opened
 passed count before None = None
 passed count before (Some o) = Some (record { count = count + o.count; close = o.close; places = before ++ o.places })
@@ -97,7 +97,7 @@ IsOpened (Some cut) new o = o ≡ Some (record { count = cut.count; close = hidd
 abbrev pub turned : List Slot → List Slot
 turned slots = backwards (λ s. s) slots
 
--- how many slots behind this one are said to go up to the parenthesis that closes it; 0 where nothing is said
+-- how many slots after this one are said to go up to the parenthesis that closes it; 0 where nothing is said
 abbrev pub leap : Slot → ℕ
 leap (slot.Word h j) = j
 leap slot.End = 0
@@ -113,7 +113,7 @@ closes_at zero ps depth = false
 closes_at (suc k) [] depth = false
 closes_at (suc k) (Ends ∷ ps) depth = false
 closes_at (suc k) (Stands m ∷ ps) depth =
-    if ends_call (part_of m.token) depth then is_none_left k else closes_at k ps (depth_behind (part_of m.token) depth)
+    if ends_call (delimiter_of m.token) depth then is_none_left k else closes_at k ps (depth_behind (delimiter_of m.token) depth)
 
 -- there are so many slots, and what is said in them is of these slots alone
 abbrev pub StaysWithin : ℕ → List Slot → Type 0
@@ -121,9 +121,9 @@ StaysWithin zero ss = Unit {0}
 StaysWithin (suc k) [] = ⊥
 StaysWithin (suc k) (s ∷ ss) = (leap s ≤ k) × StaysWithin k ss
 
--- what a slot says of those behind it is nothing, or that it is a parenthesis which is closed there
+-- what a slot says of those after it is nothing, or that it is a parenthesis which is closed there
 abbrev pub IsRight : Slot → List Slot → Type 0
-IsRight s ss = (leap s ≡ 0) ⊎ ((place_part (place_of s) ≡ Some Opens) × (closes_at (leap s) (map place_of ss) 0 ≡ true) × StaysWithin (leap s) ss)
+IsRight s ss = (leap s ≡ 0) ⊎ ((place_delimiter (place_of s) ≡ Some Opens) × (closes_at (leap s) (map place_of ss) 0 ≡ true) × StaysWithin (leap s) ss)
 
 -- what the slots say from the top down is right
 abbrev pub AreRight : List Slot → Type 0

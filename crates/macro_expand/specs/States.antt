@@ -1,13 +1,13 @@
--- How what the code holds is seen: hide sets as sets of names, tokens as marked tokens.
+-- Private to the code, cited by no public contract. How what the code holds is seen: hide sets as sets of names, tokens as marked tokens.
 use Rattle.std.specs.Prelude.{ℕ, ◌≡◌, Bool, true, false, ◌&&◌, ◌||◌, List, [], ◌∷◌, ◌++◌, map, bytes_eq, if◌then◌else◌, Option, Some, None, Result, Ok, Err, ◌⊎◌}
 use Rattle.std.specs.declared.rc.Rc.{Rc}
-use Rattle.macro_expand.specs.declared.left.Left.{Left}
-use Rattle.macro_expand.specs.declared.hide.Name.{Name}
-use Rattle.macro_expand.specs.declared.hide.HideSet.{HideSet}
-use Rattle.macro_expand.specs.declared.hidden.Hidden.{Hidden}
-use Rattle.macro_expand.specs.declared.cell.Given.{Given}
-use Rattle.macro_expand.specs.declared.cell.Cell.{Cell}
-use Rattle.macro_expand.specs.declared.cell.Cell.TheVariants as cell
+use Rattle.macro_expand.specs.declared.hide_set.name_iter.NameIter.{NameIter}
+use Rattle.macro_expand.specs.declared.hide_set.set.Name.{Name}
+use Rattle.macro_expand.specs.declared.hide_set.set.HideSet.{HideSet}
+use Rattle.macro_expand.specs.declared.hide_set.hidden_token.HiddenToken.{HiddenToken}
+use Rattle.macro_expand.specs.declared.substitution.argument_pass.Argument.{Argument as HeldArgument}
+use Rattle.macro_expand.specs.declared.substitution.argument_pass.Cell.{Cell}
+use Rattle.macro_expand.specs.declared.substitution.argument_pass.Cell.TheVariants as cell
 use Rattle.macro_expand.specs.declared.before.Before.{Before}
 use Rattle.macro_expand.specs.declared.fault.ExpandFault.{ExpandFault}
 use Rattle.macro_expand.specs.declared.fault.ExpandFault.TheVariants.{NoMemory}
@@ -16,7 +16,7 @@ use Rattle.pp_tokens.specs.declared.token.Kind.{Kind}
 use Rattle.macro_expand.specs.Marked.{Names, no_names, Marked, is_named, is_paste, sound_kind}
 use Rattle.macro_expand.specs.Listed.{names_in}
 use Rattle.macro_expand.specs.Calls.{is_operator, paste_follows}
-use Rattle.macro_expand.specs.Substituted.{Argument, Piece, Word, Gap, Joins}
+use Rattle.macro_expand.specs.Substituted.{Argument, Piece, Word, Placemarker, Joins}
 
 -- the names of a list
 abbrev pub members : List (List ℕ) → Names
@@ -43,7 +43,7 @@ abbrev pub AreAmong : Names → Names → Type 0
 AreAmong some others = (name : List ℕ) → some name ≡ true → others name ≡ true
 
 -- the names of a list that are left
-abbrev pub names_left : Left → List (List ℕ)
+abbrev pub names_left : NameIter → List (List ℕ)
 names_left left = names_in left.lengths.now left.text.now
 
 -- the text of a name
@@ -60,7 +60,7 @@ abbrev pub hidden_names : HideSet → Names
 hidden_names set = names_or_none set.names
 
 -- a token with its hide set
-abbrev pub marked : Hidden → Marked
+abbrev pub marked : HiddenToken → Marked
 marked h = record { token = h.token; hides = hidden_names h.hides }
 
 -- a list that is kept in reverse order
@@ -80,13 +80,13 @@ Answers view (Ok x) reading = reading ≡ Ok (view x)
 Answers view (Err fault) reading = (fault ≡ NoMemory) ⊎ (reading ≡ Err fault)
 
 -- an argument of a call
-abbrev pub argument_of : Given → Argument
+abbrev pub argument_of : HeldArgument → Argument
 argument_of g = record { name = g.name; plain = map marked g.plain.items; expanded = map marked g.expanded.items }
 
 -- a piece of a replacement list
 abbrev pub piece_of : Cell → Piece
 piece_of (cell.Word h) = Word (marked h)
-piece_of (cell.Gap space) = Gap space
+piece_of (cell.Placemarker space) = Placemarker space
 piece_of (cell.Joins t) = Joins t
 
 -- pieces before those that are put in
@@ -114,7 +114,7 @@ abbrev pub no_arguments : List Argument → Bool
 no_arguments [] = true
 no_arguments (a ∷ more) = false
 
--- the next parameter of those that are left, and those behind it
+-- the next parameter of those that are left, and those after it
 abbrev pub ParamAt : Option (List ℕ) → List (List ℕ) → List (List ℕ) → Type 0
 ParamAt (Some name) left behind = left ≡ name ∷ behind
 ParamAt None left behind = left ≡ []

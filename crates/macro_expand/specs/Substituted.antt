@@ -30,13 +30,13 @@ pub data Piece : Type 0 where
   -- a token
   Word : Marked → Piece
   -- a placemarker in the place of an argument without tokens, with the mark of its parameter (6.10.3.3 p2)
-  Gap : Bool → Piece
+  Placemarker : Bool → Piece
   -- a `##` of the replacement list itself
   Joins : Token → Piece
 
 -- an argument's tokens in the place of its parameter; the first has the parameter's mark
 abbrev pub in_place : Bool → List Marked → List Piece
-in_place space [] = Gap space ∷ []
+in_place space [] = Placemarker space ∷ []
 in_place space (m ∷ ms) = Word (spaced space m) ∷ map Word ms
 
 -- a byte of a literal in a string: `\` goes before `"` and `\` (6.10.3.2 p2)
@@ -80,7 +80,7 @@ abbrev pub front : {A : Type 0} → List A → Result (List A) ExpandFault → R
 front xs (Ok ys) = Ok (xs ++ ys)
 front xs (Err fault) = Err fault
 
--- a token that is no operator, by what stands before it, whether `##` follows, and the argument that it stands for: behind `#` its string, beside `##` its tokens as written, elsewhere their expansion
+-- a token that is no operator, by what is before it, whether `##` follows, and the argument that it stands for: after `#` its string, beside `##` its tokens as written, elsewhere their expansion
 abbrev pub word_of : List ℕ → Before → Bool → Option Argument → Token → Result (List Piece) ExpandFault
 word_of macro (Hash space) next (Some a) t = string_of macro space a.plain >>= (λ m. Ok (Word m ∷ []))
 word_of macro (Hash space) next None t = Ok (Word (fresh t) ∷ [])
@@ -89,7 +89,7 @@ word_of macro Paste next None t = Ok (Word (fresh t) ∷ [])
 word_of macro Else next (Some a) t = Ok (in_place t.space (if next then a.plain else a.expanded))
 word_of macro Else next None t = Ok (Word (fresh t) ∷ [])
 
--- the pieces, behind which no operator stands
+-- the pieces, after which there is no operator
 abbrev pub with_else : List Piece → List Piece × Before
 with_else pieces = (pieces, Else)
 
@@ -120,21 +120,21 @@ joined a b = joined_as (one_kind (a.token.text ++ b.token.text)) a b
 abbrev pub join : Piece → Piece → Result Piece ExpandFault
 join (Word a) (Word b) = joined a b
 join (Word a) (Joins t) = joined a (fresh t)
-join (Word a) (Gap space) = Ok (Word a)
-join (Gap space) (Word b) = Ok (Word (spaced space b))
-join (Gap space) (Joins t) = Ok (Word (spaced space (fresh t)))
-join (Gap space) (Gap other) = Ok (Gap space)
+join (Word a) (Placemarker space) = Ok (Word a)
+join (Placemarker space) (Word b) = Ok (Word (spaced space b))
+join (Placemarker space) (Joins t) = Ok (Word (spaced space (fresh t)))
+join (Placemarker space) (Placemarker other) = Ok (Placemarker space)
 join (Joins t) (Word b) = joined (fresh t) b
 join (Joins t) (Joins u) = joined (fresh t) (fresh u)
-join (Joins t) (Gap space) = Ok (Word (fresh t))
+join (Joins t) (Placemarker space) = Ok (Word (fresh t))
 
 -- whether the piece is a `##` of the replacement list
 abbrev pub is_joins : Piece → Bool
 is_joins (Word m) = false
-is_joins (Gap space) = false
+is_joins (Placemarker space) = false
 is_joins (Joins t) = true
 
--- the pieces behind and with a first one, with each `##` done
+-- a first piece and those after it, with each `##` done
 unfoldable pub pasted_on : Piece → List Piece → Result (List Piece) ExpandFault
 pasted_on p [] = Ok (p ∷ [])
 pasted_on p (o ∷ []) = Ok (p ∷ o ∷ [])
@@ -150,7 +150,7 @@ pasted (p ∷ ps) = pasted_on p ps
 -- the token of a piece; a placemarker has none
 abbrev pub as_words : Piece → List Marked
 as_words (Word m) = m ∷ []
-as_words (Gap space) = []
+as_words (Placemarker space) = []
 as_words (Joins t) = fresh t ∷ []
 
 -- the tokens of pieces

@@ -1,16 +1,16 @@
--- What the head of the first list is, as the code finds it.
+-- Private to the code, cited by no public contract. What the head of the first list is, as the code finds it.
 use Rattle.std.specs.Prelude.{ℕ, ◌+◌, ◌≡◌, ◌⊎◌, suc, Bool, true, false, not, ◌&&◌, if◌then◌else◌, codes, bytes_eq, List, [], ◌∷◌, length, take, drop, Option, Some, None, Result, Ok, Err}
 use Rattle.macro_table.specs.Definitions.{DefValue}
 use Rattle.macro_expand.specs.declared.fault.ExpandFault.{ExpandFault}
 use Rattle.macro_expand.specs.declared.fault.ExpandFault.TheVariants.{NoMemory}
 use Rattle.macro_expand.specs.declared.here.Here.{Here}
-use Rattle.macro_expand.specs.declared.known.Known.{Known}
-use Rattle.macro_expand.specs.declared.head.Replacing.{Replacing}
-use Rattle.macro_expand.specs.declared.head.NextHead.{NextHead}
-use Rattle.macro_expand.specs.declared.head.NextHead.TheVariants as next
-use Rattle.macro_expand.specs.declared.slots.Cut.{Cut}
-use Rattle.macro_expand.specs.declared.part.Part.{Part}
-use Rattle.macro_expand.specs.declared.part.Part.TheVariants.{Opens, Closes, Comma, Inner}
+use Rattle.macro_expand.specs.declared.rescan.parsed_macro.ParsedMacro.{ParsedMacro}
+use Rattle.macro_expand.specs.declared.rescan.head.MacroCall.{MacroCall}
+use Rattle.macro_expand.specs.declared.rescan.head.NextHead.{NextHead}
+use Rattle.macro_expand.specs.declared.rescan.head.NextHead.TheVariants as next
+use Rattle.macro_expand.specs.declared.rescan.slots.Cut.{Cut}
+use Rattle.macro_expand.specs.declared.delimiter.Delimiter.{Delimiter}
+use Rattle.macro_expand.specs.declared.delimiter.Delimiter.TheVariants.{Opens, Closes, Comma, Inner}
 use Rattle.macro_expand.specs.Marked.{Marked}
 use Rattle.macro_expand.specs.Macros.{Macros, params_of}
 use Rattle.macro_expand.specs.Calls.{Closed, closed, arguments, Waiting, waiting, first_list, other_lists}
@@ -23,11 +23,11 @@ weight [] = 0
 weight (a ∷ more) = suc (length a.plain) + weight more
 
 -- a call that is being replaced, where its arguments and what follows them are the first of these lists
-abbrev pub call_of : Replacing → List (List Marked) → Call
+abbrev pub call_of : MacroCall → List (List Marked) → Call
 call_of r ls = record { def = r.def.value; name = r.name; space = r.space; hides = hidden_names r.hides; args = waiting r.def.value (drop r.next (params_of r.def.value)) (take r.count ls); rest = first_list (drop r.count ls) }
 
--- the lists behind those of the call
-abbrev pub skip : Replacing → List (List Marked) → List (List Marked)
+-- the lists after those of the call
+abbrev pub skip : MacroCall → List (List Marked) → List (List Marked)
 skip r ls = other_lists (drop r.count ls)
 
 -- what the head of the first list is, where these are the lists before and after it was taken
@@ -38,7 +38,7 @@ IsHead (Ok (next.Replaced r)) old new head = (head ≡ Replaced (call_of r new))
 IsHead (Err fault) old new head = (fault ≡ NoMemory) ⊎ (head ≡ Fails fault)
 
 -- whether a name stands for nothing, where this is known of it, and not for its place either
-abbrev pub is_unknown : Option Known → List ℕ → Bool
+abbrev pub is_unknown : Option ParsedMacro → List ℕ → Bool
 is_unknown None name = not (bytes_eq name (codes "__LINE__")) && not (bytes_eq name (codes "__FILE__"))
 is_unknown (Some known) name = false
 
@@ -52,7 +52,7 @@ no_named [] = true
 no_named (p ∷ ps) = false
 
 -- whether this is `)`
-abbrev pub closes : Option Part → Bool
+abbrev pub closes : Option Delimiter → Bool
 closes None = false
 closes (Some Opens) = false
 closes (Some Closes) = true

@@ -1,4 +1,4 @@
-/// What stands directly before a token of a replacement list.
+/// What is directly before a token of a replacement list.
 #[derive(Clone, Copy, Debug, Drop)]
 pub enum Before {
     /// No operator.

@@ -9,10 +9,10 @@ ghost use Rattle.macro_expand.specs.Answering.{IsAnswer};
 
 use crate::fault::ExpandFault;
 use crate::here::Here;
-use crate::hidden::{Hidden, with_tokens};
-use crate::known::Definitions;
-use crate::machine::run;
-use crate::stack::fresh_list;
+use crate::hide_set::hidden_token::{HiddenToken, with_tokens};
+use crate::rescan::machine::run;
+use crate::rescan::parsed_macro::Definitions;
+use crate::rescan::stack::fresh_list;
 use crate::token::{is_identifier, is_lone_quote};
 use macro_table::Table;
 use pp_tokens::{Token, Tokens};
@@ -38,7 +38,7 @@ fn has_identifier(tokens: &[Token]) -> bool
 }
 
 /// The tokens without their hide sets.
-pub fn without_hides(alloc: Global, tokens: Vec<Hidden>) -> Result<Tokens, AllocError>
+pub fn without_hides(alloc: Global, tokens: Vec<HiddenToken>) -> Result<Tokens, AllocError>
     ensures { IfOk result (λ all. all ≡ map (λ h. h.token) tokens.items) }
 {
     let none = Vec::with_capacity(alloc, tokens.len())?;

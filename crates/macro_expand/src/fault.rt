@@ -23,7 +23,7 @@ pub enum ExpandFault {
     /// The text that the table has for this name is no definition.
     #[error("a text is no definition")]
     BadDefinition { name: Bytes },
-    /// A quote that nothing closes stands in the text.
+    /// The text has a quote that nothing closes.
     #[error("a quote is not closed")]
     LoneQuote,
     /// More than 4,194,304 tokens were put in.

@@ -3,30 +3,14 @@
 #![tactic(auto)]
 
 mod before;
-mod cell;
+mod delimiter;
 mod expansion;
 mod fault;
-mod head;
 mod here;
-mod hidden;
-mod hide;
-mod known;
+mod hide_set;
 mod laws;
-mod left;
-mod machine;
-mod made;
-mod names;
-mod once;
-mod one_token;
-mod params;
-mod part;
-mod pasting;
-mod plain;
-mod recent;
-mod slots;
-mod stack;
-mod strings;
-mod substitute;
+mod rescan;
+mod substitution;
 #[cfg(test)]
 mod tests;
 mod token;
@@ -35,4 +19,4 @@ pub use expansion::expand;
 pub use fault::ExpandFault;
 pub use here::Here;
 pub use laws::{calls_are_exact, one_answer, only_free_parameters_expand};
-pub use once::expand_once;
+pub use rescan::once::expand_once;

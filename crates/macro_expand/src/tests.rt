@@ -18,7 +18,7 @@ fn table_of(alloc: Global, defs: &[&[u8]]) -> Result<Table, NoMemory> {
     Ok(table)
 }
 
-/// The tokens, with a space where white space stands before one.
+/// The tokens, with a space where white space is before one.
 fn written(alloc: Global, tokens: &Tokens) -> Result<Vec<u8>, NoMemory> {
     let mut text = Vec::new(alloc);
     for token in tokens.as_slice() {

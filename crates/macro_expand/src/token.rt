@@ -1,10 +1,10 @@
 // Tests of tokens.
 ghost use Rattle.std.specs.Prelude.{◌≡◌, ◌<◌, ◌^◌};
-ghost use Rattle.macro_expand.specs.Marked.{is_identifier, is_punctuator, is_literal, is_lone_quote, is_named, spells, is_hash, is_paste, part_of};
+ghost use Rattle.macro_expand.specs.Marked.{is_identifier, is_punctuator, is_literal, is_lone_quote, is_named, spells, is_hash, is_paste, delimiter_of};
 ghost use Rattle.macro_expand.specs.Calls.{depth_behind, ends_call, parts};
 ghost use Rattle.macro_expand.specs.Heads.{is_opens};
 
-use crate::part::Part;
+use crate::delimiter::Delimiter;
 use pp_tokens::{Kind, Token};
 
 /// Whether the kind is that of identifiers.
@@ -63,55 +63,55 @@ pub fn is_paste(token: &Token) -> bool
 }
 
 /// What the token is to the arguments of a call.
-pub fn part(token: &Token) -> Part
-    ensures { result ≡ part_of token.now }
+pub fn delimiter(token: &Token) -> Delimiter
+    ensures { result ≡ delimiter_of token.now }
 {
     if spells(b"(", token) {
-        Part::Opens
+        Delimiter::Opens
     } else if spells(b")", token) {
-        Part::Closes
+        Delimiter::Closes
     } else if spells(b",", token) {
-        Part::Comma
+        Delimiter::Comma
     } else {
-        Part::Inner
+        Delimiter::Inner
     }
 }
 
-/// How deep in parentheses the tokens behind this one stand.
-pub fn depth_behind(part: Part, depth: usize) -> usize
+/// How deep in parentheses the tokens after this one are.
+pub fn depth_behind(part: Delimiter, depth: usize) -> usize
     requires { depth < 2 ^ 63 }
     ensures { result ≡ depth_behind part depth }
 {
     match part {
-        Part::Opens => depth + 1,
-        Part::Closes => depth.saturating_sub(1),
-        Part::Comma | Part::Inner => depth,
+        Delimiter::Opens => depth + 1,
+        Delimiter::Closes => depth.saturating_sub(1),
+        Delimiter::Comma | Delimiter::Inner => depth,
     }
 }
 
 /// Whether a token at this depth closes the call.
-pub fn ends_call(part: Part, depth: usize) -> bool
+pub fn ends_call(part: Delimiter, depth: usize) -> bool
     ensures { result ≡ ends_call part depth }
 {
     match part {
-        Part::Closes => depth == 0,
-        Part::Opens | Part::Comma | Part::Inner => false,
+        Delimiter::Closes => depth == 0,
+        Delimiter::Opens | Delimiter::Comma | Delimiter::Inner => false,
     }
 }
 
 /// Whether a token at this depth, with so many commas left, parts two arguments.
-pub fn parts_arguments(part: Part, commas: usize, depth: usize) -> bool
+pub fn parts_arguments(part: Delimiter, commas: usize, depth: usize) -> bool
     ensures { result ≡ parts part commas depth }
 {
     match part {
-        Part::Comma => depth == 0 && commas != 0,
-        Part::Opens | Part::Closes | Part::Inner => false,
+        Delimiter::Comma => depth == 0 && commas != 0,
+        Delimiter::Opens | Delimiter::Closes | Delimiter::Inner => false,
     }
 }
 
 /// Whether this is `(`.
-pub fn is_opening(part: Part) -> bool
+pub fn is_opening(part: Delimiter) -> bool
     ensures { result ≡ is_opens part }
 {
-    matches!(part, Part::Opens)
+    matches!(part, Delimiter::Opens)
 }

@@ -1,0 +1,9 @@
+use Rattle.std.proofs.Common.{◌≡◌, false, length}
+use Rattle.macro_expand.specs.Calls.{stands_free}
+use Rattle.macro_expand.proofs.substitution.params.stands_free.Given as goal
+
+abbrev pub invariant-loop-token : goal.invariant-loop-token
+invariant-loop-token l = stands_free l.name l.behind l.left ≡ stands_free l.name false l.body
+
+abbrev pub decreases-loop-token : goal.decreases-loop-token
+decreases-loop-token l = length l.left
