@@ -7,15 +7,15 @@ use Rattle.std.proofs.lemmas.Bool.{cond_both, cond-true, cond-false}
 use Rattle.std.proofs.lemmas.List.{length-map}
 use Rattle.std.proofs.Math.Seq.{take-length}
 use Rattle.std.proofs.lemmas.Slice.Eq.{bytes_eq-Decides}
-use Rattle.pp_tokens.specs.declared.piece.What.{What}
-use Rattle.pp_tokens.specs.declared.piece.What.TheVariants.{Blank, LineEnd, Comment, Word}
+use Rattle.pp_tokens.specs.declared.piece.PieceKind.{PieceKind}
+use Rattle.pp_tokens.specs.declared.piece.PieceKind.TheVariants.{Blank, LineEnd, Comment, Word}
 use Rattle.pp_tokens.specs.declared.token.Kind.{Kind}
 use Rattle.pp_tokens.specs.declared.token.Kind.TheVariants.{Identifier, Number, Char as Constant, Str, Punct, Header, LoneQuote, Other}
 use Rattle.pp_tokens.specs.declared.token.Token.{Token}
 use Rattle.pp_tokens.specs.declared.fault.LexFault.{LexFault}
 use Rattle.pp_tokens.specs.Cleaning.{Char, bytes_of, on_line_one, first_nul}
 use Rattle.pp_tokens.specs.Kinds.{kind_of, is_blank, begins}
-use Rattle.pp_tokens.specs.Cut.{Page, Piece, no_page, put, put_all, with_token, chars_of, longer, longest_within, longest, up_to_close, line_rest, token_at, token_or, header_name, piece_at, header_may_stand, IsCut, LexesText}
+use Rattle.pp_tokens.specs.Cut.{LinesSoFar, Piece, no_page, put, put_all, with_token, chars_of, longer, longest_within, longest, up_to_close, line_rest, token_at, token_or, header_name, piece_at, header_may_stand, IsCut, LexesText}
 use Rattle.pp_tokens.specs.Printing.{SameTokens}
 use Rattle.pp_tokens.specs.Laws.{IsAnswer}
 use Rattle.mac_base.proofs.Choices.{same_ok}
@@ -82,7 +82,7 @@ total-append : (ts us : List Token) → total (ts ++ us) ≡ total ts + total us
 total-append [] us = omega arith
 total-append (t ∷ ts) us = omega (arith, total-append ts us)
 
-put_total : (page : Page) (what : What) (chars : List Char) → total (put page what chars).tokens ≤ total page.tokens + length chars
+put_total : (page : LinesSoFar) (what : PieceKind) (chars : List Char) → total (put page what chars).tokens ≤ total page.tokens + length chars
 put_total page Blank chars = omega arith
 put_total page Comment chars = omega arith
 put_total page LineEnd chars = omega arith
@@ -92,14 +92,14 @@ put_total page (Word kind) chars = with_total page.tokens refl
     with_total [] e = omega (arith, length-map chars (λ (c : Char). c.byte))
     with_total (t ∷ ts) e = omega (arith, length-map chars (λ (c : Char). c.byte), total-append page.tokens (record { kind = kind; text = bytes_of chars; space = page.space } ∷ []))
 
-all_total : (ps : List Piece) (page : Page) → total (put_all page ps).tokens ≤ total page.tokens + length (chars_of ps)
+all_total : (ps : List Piece) (page : LinesSoFar) → total (put_all page ps).tokens ≤ total page.tokens + length (chars_of ps)
 all_total [] page = omega arith
 all_total (p ∷ ps) page = omega (arith, all_total ps (put page p.what p.chars), put_total page p.what p.chars, length-append p.chars (chars_of ps))
 
 -- The pieces of a text alone.
 
 -- no line ends, and a token has the kind that its text spells
-abbrev IsGood : List ℕ → Option (What × ℕ) → Type 0
+abbrev IsGood : List ℕ → Option (PieceKind × ℕ) → Type 0
 IsGood bytes None = Unit {0}
 IsGood bytes (Some (Blank, n)) = Unit {0}
 IsGood bytes (Some (Comment, n)) = Unit {0}
@@ -129,11 +129,11 @@ comment_good bytes (Some n) = tt
 piece_good : (bytes : List ℕ) → IsGood bytes (piece_at false false bytes)
 piece_good [] = tt
 piece_good (b ∷ bs) =
-    let token : Option (What × ℕ) = token_at false (b ∷ bs) in
-    let open_comment : Option (What × ℕ) = option_map (λ n. (Comment, 2 + n)) (up_to_close (drop 1 bs)) in
-    let third : Option (What × ℕ) = cond (begins (codes "/*") (b ∷ bs)) open_comment token in
-    let second : Option (What × ℕ) = cond (begins (codes "//") (b ∷ bs)) (Some (Comment, suc (line_rest bs))) third in
-    let first : Option (What × ℕ) = cond (is_blank b) (Some (Blank, 1)) second in
+    let token : Option (PieceKind × ℕ) = token_at false (b ∷ bs) in
+    let open_comment : Option (PieceKind × ℕ) = option_map (λ n. (Comment, 2 + n)) (up_to_close (drop 1 bs)) in
+    let third : Option (PieceKind × ℕ) = cond (begins (codes "/*") (b ∷ bs)) open_comment token in
+    let second : Option (PieceKind × ℕ) = cond (begins (codes "//") (b ∷ bs)) (Some (Comment, suc (line_rest bs))) third in
+    let first : Option (PieceKind × ℕ) = cond (is_blank b) (Some (Blank, 1)) second in
     cond_both (b == 10) (Some (Blank, 1)) first (IsGood (b ∷ bs)) (λ e. tt)
     (λ e. cond_both (is_blank b) (Some (Blank, 1)) second (IsGood (b ∷ bs)) (λ e. tt)
     (λ e. cond_both (begins (codes "//") (b ∷ bs)) (Some (Comment, suc (line_rest bs))) third (IsGood (b ∷ bs)) (λ e. tt)
@@ -144,7 +144,7 @@ piece_good (b ∷ bs) =
 abbrev Begins : Token → List Token → Type 0
 Begins t ts = (us : List Token) × (ts ≡ t ∷ us)
 
-abbrev NoLine : Option (What × ℕ) → Type 0
+abbrev NoLine : Option (PieceKind × ℕ) → Type 0
 NoLine None = Unit {0}
 NoLine (Some (Blank, n)) = Unit {0}
 NoLine (Some (Comment, n)) = Unit {0}
@@ -166,11 +166,11 @@ comment_no_line (Some n) = tt
 piece_no_line : (header : Bool) (bytes : List ℕ) → NoLine (piece_at false header bytes)
 piece_no_line header [] = tt
 piece_no_line header (b ∷ bs) =
-    let token : Option (What × ℕ) = token_at header (b ∷ bs) in
-    let open_comment : Option (What × ℕ) = option_map (λ n. (Comment, 2 + n)) (up_to_close (drop 1 bs)) in
-    let third : Option (What × ℕ) = cond (begins (codes "/*") (b ∷ bs)) open_comment token in
-    let second : Option (What × ℕ) = cond (begins (codes "//") (b ∷ bs)) (Some (Comment, suc (line_rest bs))) third in
-    let first : Option (What × ℕ) = cond (is_blank b) (Some (Blank, 1)) second in
+    let token : Option (PieceKind × ℕ) = token_at header (b ∷ bs) in
+    let open_comment : Option (PieceKind × ℕ) = option_map (λ n. (Comment, 2 + n)) (up_to_close (drop 1 bs)) in
+    let third : Option (PieceKind × ℕ) = cond (begins (codes "/*") (b ∷ bs)) open_comment token in
+    let second : Option (PieceKind × ℕ) = cond (begins (codes "//") (b ∷ bs)) (Some (Comment, suc (line_rest bs))) third in
+    let first : Option (PieceKind × ℕ) = cond (is_blank b) (Some (Blank, 1)) second in
     cond_both (b == 10) (Some (Blank, 1)) first NoLine (λ e. tt)
     (λ e. cond_both (is_blank b) (Some (Blank, 1)) second NoLine (λ e. tt)
     (λ e. cond_both (begins (codes "//") (b ∷ bs)) (Some (Comment, suc (line_rest bs))) third NoLine (λ e. tt)
@@ -180,11 +180,11 @@ piece_no_line header (b ∷ bs) =
 no_line : (header : Bool) (bytes : List ℕ) (n : ℕ) → piece_at false header bytes ≡ Some (LineEnd, n) → ⊥
 no_line header bytes n e = subst NoLine e (piece_no_line header bytes)
 
-keeps : (ps : List Piece) (page : Page) (chars : List Char) (t : Token) → IsCut false page chars ps [] → Begins t page.tokens → Begins t (put_all page ps).tokens
+keeps : (ps : List Piece) (page : LinesSoFar) (chars : List Char) (t : Token) → IsCut false page chars ps [] → Begins t page.tokens → Begins t (put_all page ps).tokens
 keeps [] page chars t cut b = b
 keeps (p ∷ ps) page chars t cut b = keeps ps (put page p.what p.chars) (drop (length p.chars) chars) t (head_of false page chars p ps [] cut).behind (kept p.what refl b)
   where
-    kept : (what : What) → p.what ≡ what → Begins t page.tokens → Begins t (put page what p.chars).tokens
+    kept : (what : PieceKind) → p.what ≡ what → Begins t page.tokens → Begins t (put page what p.chars).tokens
     kept Blank e b = b
     kept Comment e b = b
     kept LineEnd e b = absurd (no_line (header_may_stand page.tokens) (bytes_of chars) (length p.chars) ((head_of false page chars p ps [] cut).stands ∙ ap (λ w. Some (w, length p.chars)) e))
@@ -208,7 +208,7 @@ lone_kind text t (p ∷ ps) cut are same = by_what p.what refl
     long : 1 ≤ length p.chars
     long = (piece-fits false false (on_line_one text) p.what (length p.chars) (head_of false no_page (on_line_one text) p ps [] cut).stands).0
 
-    shorter : (page : Page) → page.tokens ≡ [] → (put_all page ps).tokens ≡ t ∷ [] → ⊥
+    shorter : (page : LinesSoFar) → page.tokens ≡ [] → (put_all page ps).tokens ≡ t ∷ [] → ⊥
     shorter page none e =
         let less : total (put_all page ps).tokens ≤ total page.tokens + length (chars_of ps) = all_total ps page in
         let sum : total (put_all page ps).tokens ≡ length text = ap total e ∙ (omega (arith, ap length same)) in
@@ -224,7 +224,7 @@ lone_kind text t (p ∷ ps) cut are same = by_what p.what refl
         first_same : (x y : Token) (xs ys : List Token) → x ∷ xs ≡ y ∷ ys → x ≡ y
         first_same x y xs ys e = cc
 
-    by_what : (what : What) → p.what ≡ what → kind_of text ≡ Some t.kind
+    by_what : (what : PieceKind) → p.what ≡ what → kind_of text ≡ Some t.kind
     by_what Blank e = absurd (shorter (put no_page p.what p.chars) (ap (λ w. (put no_page w p.chars).tokens) e) are)
     by_what Comment e = absurd (shorter (put no_page p.what p.chars) (ap (λ w. (put no_page w p.chars).tokens) e) are)
     by_what LineEnd e = absurd (no_line false text (length p.chars) (head ∙ ap (λ w. Some (w, length p.chars)) e))
@@ -246,7 +246,7 @@ kind_given text tokens lexed = go (one_kind text) refl
         by : (b : Bool) → bytes_eq t.text text ≡ b → cond b (sound_kind (Some t.kind)) None ≡ None
         by false h = refl
         by true h =
-            ap sound_kind (sym (lone_kind text t lexed.2.0 lexed.2.1 (ap (λ (p : Page). p.tokens) (sym lexed.2.2) ∙ sym lexed.3 ∙ e) ((bytes_eq-Decides t.text text).0 h)))
+            ap sound_kind (sym (lone_kind text t lexed.2.0 lexed.2.1 (ap (λ (p : LinesSoFar). p.tokens) (sym lexed.2.2) ∙ sym lexed.3 ∙ e) ((bytes_eq-Decides t.text text).0 h)))
             ∙ sym (ap (λ o. kind_unless o text) lexed.0) ∙ n
 
     go : (o : Option Kind) → one_kind text ≡ o → kind_of_only tokens text ≡ o

@@ -3,13 +3,13 @@ use Rattle.std.proofs.Common.{◌≡◌, ◌⊎◌, ℕ, ◌≤◌, Bool, true, 
 use Rattle.std.specs.Prelude.{codes}
 use Rattle.std.proofs.lemmas.List.{take-append-drop, length-take-le, length-map}
 use borrow.Author.Tests.{eqb-true, eqb-false}
-use Rattle.pp_tokens.specs.declared.piece.What.{What}
+use Rattle.pp_tokens.specs.declared.piece.PieceKind.{PieceKind}
 use Rattle.pp_tokens.specs.declared.token.Token.{Token}
 use Rattle.pp_tokens.specs.declared.token.Kind.{Kind}
 use Rattle.pp_tokens.specs.declared.token.Kind.TheVariants.{Identifier, Number, Char as CharKind, Str, Punct, Header, LoneQuote, Other}
 use Rattle.pp_tokens.specs.declared.fault.LexFault.{LexFault}
 use Rattle.pp_tokens.specs.Cleaning.{Char, bytes_of, on_line_one, first_nul}
-use Rattle.pp_tokens.specs.Cut.{Page, no_page, put, piece_at, header_may_stand, Piece, IsCut, chars_of, Makes, LexesText}
+use Rattle.pp_tokens.specs.Cut.{LinesSoFar, no_page, put, piece_at, header_may_stand, Piece, IsCut, chars_of, Makes, LexesText}
 use Rattle.pp_tokens.specs.Printing.{SameToken, SameTokens, GivesBoth, IsParted, AreDots, IsGap, Prints}
 use Rattle.pp_tokens.proofs.ScanLemmas.{piece-fits}
 use Rattle.macro_table.specs.Texts.{page_behind, page_of, page_tokens, tokens_unless, tokens_of}
@@ -20,11 +20,11 @@ use Rattle.macro_table.proofs.TextLemmas.{tokens_given}
 err_no_ok : {A : Type 0} (fault : LexFault) (x : A) → ◌≡◌ {A = Result A LexFault} (Err fault) (Ok x) → ⊥
 err_no_ok fault x is = cc
 
-same_page : (a b : Page) → ◌≡◌ {A = Result Page LexFault} (Ok a) (Ok b) → a ≡ b
+same_page : (a b : LinesSoFar) → ◌≡◌ {A = Result LinesSoFar LexFault} (Ok a) (Ok b) → a ≡ b
 same_page a b is = cc
 
 -- what a cut of the rest makes of the whole
-cut_more : (page : Page) (chars : List Char) (what : What) (n : ℕ) (pieces : List Piece) → piece_at false (header_may_stand page.tokens) (bytes_of chars) ≡ Some (what, n) →
+cut_more : (page : LinesSoFar) (chars : List Char) (what : PieceKind) (n : ℕ) (pieces : List Piece) → piece_at false (header_may_stand page.tokens) (bytes_of chars) ≡ Some (what, n) →
     IsCut false (put page what (take n chars)) (drop n chars) pieces [] → IsCut false page chars (record { what = what; chars = take n chars } ∷ pieces) []
 cut_more page chars what n pieces stands cut =
     let fits = piece-fits false (header_may_stand page.tokens) chars what n stands in
@@ -37,9 +37,9 @@ cut_more page chars what n pieces stands cut =
 
 -- the pages that so many pieces make
 abbrev Made : ℕ → Type 0
-Made n = (page : Page) (chars : List Char) (final : Page) → length chars ≤ n → page_of n page chars ≡ Ok final → Makes false page chars final
+Made n = (page : LinesSoFar) (chars : List Char) (final : LinesSoFar) → length chars ≤ n → page_of n page chars ≡ Ok final → Makes false page chars final
 
-makes_behind : (n : ℕ) → Made n → (page : Page) (chars : List Char) (final : Page) → length chars ≤ suc n → (piece : Option (What × ℕ)) → piece_at false (header_may_stand page.tokens) (bytes_of chars) ≡ piece →
+makes_behind : (n : ℕ) → Made n → (page : LinesSoFar) (chars : List Char) (final : LinesSoFar) → length chars ≤ suc n → (piece : Option (PieceKind × ℕ)) → piece_at false (header_may_stand page.tokens) (bytes_of chars) ≡ piece →
     page_behind (page_of n) page chars piece ≡ Ok final → Makes false page chars final
 makes_behind n rest page chars final enough None stands is = absurd (err_no_ok _ final is)
 makes_behind n rest page chars final enough (Some piece) stands is =
@@ -60,7 +60,7 @@ same_tokens_ok a b is = cc
 lines_fit : (text : List ℕ) → length (on_line_one text) ≤ length text
 lines_fit text = subst (λ n. n ≤ length text) (sym (length-map {B = Char} text (λ b. record { byte = b; line = 1 }))) (omega arith)
 
-lexes_page : (text : List ℕ) (tokens : List Token) (made : Result Page LexFault) → page_of (length text) no_page (on_line_one text) ≡ made → first_nul (on_line_one text) ≡ None → page_tokens made ≡ Ok tokens → LexesText text (Ok tokens)
+lexes_page : (text : List ℕ) (tokens : List Token) (made : Result LinesSoFar LexFault) → page_of (length text) no_page (on_line_one text) ≡ made → first_nul (on_line_one text) ≡ None → page_tokens made ≡ Ok tokens → LexesText text (Ok tokens)
 lexes_page text tokens (Ok page) made no_nul is = (no_nul, page, makes (length text) no_page (on_line_one text) page (lines_fit text) made, sym (same_tokens_ok page.tokens tokens is))
 lexes_page text tokens (Err fault) made no_nul is = absurd (err_no_ok fault tokens is)
 

@@ -3,14 +3,14 @@ use Rattle.std.proofs.Common.{ℕ, zero, suc, Bool, true, false, cond, not, ◌&
 use Rattle.std.specs.List.{list_any}
 use lib.Chars.{codes}
 use Rattle.mac_base.specs.Input.{◌>>=◌}
-use Rattle.pp_tokens.specs.declared.piece.What.{What}
+use Rattle.pp_tokens.specs.declared.piece.PieceKind.{PieceKind}
 use Rattle.pp_tokens.specs.declared.token.Token.{Token}
 use Rattle.pp_tokens.specs.declared.fault.LexFault.{LexFault}
 use Rattle.pp_tokens.specs.declared.fault.LexFault.TheVariants.{NulByte, OpenComment}
 use Rattle.pp_tokens.specs.declared.fault.LexFault.TheVariants.{NoMemory as LexRanOut}
 use Rattle.pp_tokens.specs.Cleaning.{Char, bytes_of, on_line_one, first_nul}
 use Rattle.pp_tokens.specs.Kinds.{same}
-use Rattle.pp_tokens.specs.Cut.{Page, no_page, put, piece_at, header_may_stand, LexesText}
+use Rattle.pp_tokens.specs.Cut.{LinesSoFar, no_page, put, piece_at, header_may_stand, LexesText}
 use Rattle.pp_tokens.specs.Laws.{IsAnswer}
 use Rattle.pp_tokens.proofs.ExistLemmas.{text-lexed}
 use Rattle.macro_table.specs.declared.fault.DefFault.{DefFault}
@@ -135,17 +135,17 @@ plain_tokens (Err (NulByte line)) answer = tt
 plain_tokens (Err (OpenComment line)) answer = tt
 plain_tokens (Err LexRanOut) answer = answer
 
-page_answer : (r : Result Page LexFault) → IsAnswer r → IsAnswer (page_tokens r)
+page_answer : (r : Result LinesSoFar LexFault) → IsAnswer r → IsAnswer (page_tokens r)
 page_answer (Ok page) answer = tt
 page_answer (Err (NulByte line)) answer = tt
 page_answer (Err (OpenComment line)) answer = tt
 page_answer (Err LexRanOut) answer = answer
 
-behind_answer : (rest : Page → List Char → Result Page LexFault) (page : Page) (chars : List Char) (piece : Option (What × ℕ)) → ((p : Page) (cs : List Char) → IsAnswer (rest p cs)) → IsAnswer (page_behind rest page chars piece)
+behind_answer : (rest : LinesSoFar → List Char → Result LinesSoFar LexFault) (page : LinesSoFar) (chars : List Char) (piece : Option (PieceKind × ℕ)) → ((p : LinesSoFar) (cs : List Char) → IsAnswer (rest p cs)) → IsAnswer (page_behind rest page chars piece)
 behind_answer rest page chars None answers = tt
 behind_answer rest page chars (Some piece) answers = answers (put page piece.0 (take piece.1 chars)) (drop piece.1 chars)
 
-answered : (n : ℕ) (page : Page) (chars : List Char) → IsAnswer (page_of n page chars)
+answered : (n : ℕ) (page : LinesSoFar) (chars : List Char) → IsAnswer (page_of n page chars)
 answered zero page chars = tt
 answered (suc n) page [] = tt
 answered (suc n) page (c ∷ cs) = behind_answer (page_of n) page (c ∷ cs) (piece_at false (header_may_stand page.tokens) (bytes_of (c ∷ cs))) (answered n)

@@ -3,13 +3,13 @@ use Rattle.std.proofs.Common.{◌≡◌, ℕ, zero, suc, ◌≤◌, Bool, true, 
 use Rattle.std.proofs.lemmas.List.{take_at, drop_at, length-map}
 use Rattle.std.specs.List.{AllByRecursion, flat_map}
 use lib.Chars.{codes}
-use Rattle.pp_tokens.specs.declared.piece.What.{What}
-use Rattle.pp_tokens.specs.declared.piece.What.TheVariants.{Blank, Word}
+use Rattle.pp_tokens.specs.declared.piece.PieceKind.{PieceKind}
+use Rattle.pp_tokens.specs.declared.piece.PieceKind.TheVariants.{Blank, Word}
 use Rattle.pp_tokens.specs.declared.token.Kind.{Kind}
 use Rattle.pp_tokens.specs.declared.token.Token.{Token}
 use Rattle.pp_tokens.specs.Cleaning.{Char, bytes_of, on_line_one}
 use Rattle.pp_tokens.specs.Kinds.{kind_of}
-use Rattle.pp_tokens.specs.Cut.{Page, no_page, put, piece_at, header_may_stand, line_of}
+use Rattle.pp_tokens.specs.Cut.{LinesSoFar, no_page, put, piece_at, header_may_stand, line_of}
 use Rattle.pp_tokens.specs.Laws.{IsPrintable}
 use Rattle.pp_tokens.proofs.BothLemmas.{bytes_back}
 use Rattle.pp_tokens.proofs.AheadLemmas.{Ahead, token-stands}
@@ -31,7 +31,7 @@ back_line : (xs ys : List ℕ) → drop (length xs) (on_line_one (xs ++ ys)) ≡
 back_line xs ys = ap (drop (length xs)) (on_line_append xs ys) ∙ drop_at (on_line_one xs) (on_line_one ys) (length xs) (long_line xs)
 
 -- one piece in front
-one_piece : (n : ℕ) (page : Page) (what : What) (b : ℕ) (front r : List ℕ) → header_may_stand page.tokens ≡ false → piece_at false false ((b ∷ front) ++ r) ≡ Some (what, length (b ∷ front)) →
+one_piece : (n : ℕ) (page : LinesSoFar) (what : PieceKind) (b : ℕ) (front r : List ℕ) → header_may_stand page.tokens ≡ false → piece_at false false ((b ∷ front) ++ r) ≡ Some (what, length (b ∷ front)) →
     page_of (suc n) page (on_line_one ((b ∷ front) ++ r)) ≡ page_of n (put page what (on_line_one (b ∷ front))) (on_line_one r)
 one_piece n page what b front r header stands =
     let chars : List Char = on_line_one ((b ∷ front) ++ r) in
@@ -42,7 +42,7 @@ one_piece n page what b front r header stands =
     ∙ ap (page_of n (put page what (on_line_one (b ∷ front)))) (back_line (b ∷ front) r)
 
 -- a page behind a name
-abbrev pub page_at : Token → List Token → Bool → ℕ → Page
+abbrev pub page_at : Token → List Token → Bool → ℕ → LinesSoFar
 page_at a done s number = record { lines = []; number = number; tokens = a ∷ done; space = s }
 
 -- behind these tokens the text gives those

@@ -3,14 +3,14 @@ use Rattle.std.proofs.Common.{◌≡◌, ℕ, ◌+◌, ◌≤◌, Bool, true, fa
 use Rattle.std.specs.Option.{option_map}
 use borrow.Author.Tests.{eqb-true}
 use Rattle.std.proofs.lemmas.List.{length-map}
-use Rattle.pp_tokens.specs.declared.piece.What.{What}
-use Rattle.pp_tokens.specs.declared.piece.What.TheVariants.{Comment}
+use Rattle.pp_tokens.specs.declared.piece.PieceKind.{PieceKind}
+use Rattle.pp_tokens.specs.declared.piece.PieceKind.TheVariants.{Comment}
 use Rattle.pp_tokens.specs.declared.token.Token.{Token}
 use Rattle.pp_tokens.specs.declared.fault.LexFault.{LexFault}
 use Rattle.pp_tokens.specs.declared.fault.LexFault.TheVariants.{NulByte, OpenComment}
 use Rattle.pp_tokens.specs.declared.fault.LexFault.TheVariants.{NoMemory as LexRanOut}
 use Rattle.pp_tokens.specs.Cleaning.{Char, bytes_of, on_line_one}
-use Rattle.pp_tokens.specs.Cut.{Page, Piece, no_page, put, put_all, piece_at, header_may_stand, line_of, IsCut, IsOpen, LexesText, up_to_close}
+use Rattle.pp_tokens.specs.Cut.{LinesSoFar, Piece, no_page, put, put_all, piece_at, header_may_stand, line_of, IsCut, IsOpen, LexesText, up_to_close}
 use Rattle.pp_tokens.specs.Laws.{IsAnswer}
 use Rattle.pp_tokens.proofs.UniqueLemmas.{head_of, open_end}
 use Rattle.pp_tokens.proofs.ScanLemmas.{piece-fits}
@@ -25,15 +25,15 @@ use Rattle.macro_table.specs.Definitions.{DefValue, def_of}
 use Rattle.macro_table.specs.Texts.{page_behind, page_of, page_tokens, tokens_unless, tokens_of, as_text, def_of_tokens, def_of_text}
 
 -- so many pieces may be left behind some pieces of a text
-record Left (n : ℕ) (page : Page) (chars : List Char) (final : Page) (rest : List Char) : Type 0 where
+record Left (n : ℕ) (page : LinesSoFar) (chars : List Char) (final : LinesSoFar) (rest : List Char) : Type 0 where
   count : ℕ
   enough : length rest ≤ count
   same : page_of n page chars ≡ page_of count final rest
 
-no_piece : (o : Option (What × ℕ)) (x : What × ℕ) → o ≡ Some x → o ≡ None → ⊥
+no_piece : (o : Option (PieceKind × ℕ)) (x : PieceKind × ℕ) → o ≡ Some x → o ≡ None → ⊥
 no_piece o x some none = cc
 
-behind_pieces : (n : ℕ) (page : Page) (chars : List Char) (pieces : List Piece) (rest : List Char) → IsCut false page chars pieces rest → length chars ≤ n → Left n page chars (put_all page pieces) rest
+behind_pieces : (n : ℕ) (page : LinesSoFar) (chars : List Char) (pieces : List Piece) (rest : List Char) → IsCut false page chars pieces rest → length chars ≤ n → Left n page chars (put_all page pieces) rest
 behind_pieces n page chars [] rest cut enough =
     record { count = n; enough = subst (λ (cs : List Char). length cs ≤ n) cut.whole enough; same = ap (page_of n page) cut.whole }
 behind_pieces n page [] (p ∷ ps) rest cut enough =
@@ -52,12 +52,12 @@ behind_pieces (suc n) page (c ∷ cs) (p ∷ ps) rest cut enough =
           ∙ ap (λ (front : List Char). page_of n (put page p.what front) (drop (length p.chars) (c ∷ cs))) (sym head.front) ∙ left.same;
     }
 
-at_end : (n : ℕ) (page : Page) → page_of n page [] ≡ Ok page
+at_end : (n : ℕ) (page : LinesSoFar) → page_of n page [] ≡ Ok page
 at_end zero page = refl
 at_end (suc n) page = refl
 
 -- no piece stands where a comment is not closed
-at_open : (n : ℕ) (page : Page) (rest : List Char) → IsOpen (bytes_of rest) → length rest ≤ n → page_of n page rest ≡ Err (OpenComment (line_of rest))
+at_open : (n : ℕ) (page : LinesSoFar) (rest : List Char) → IsOpen (bytes_of rest) → length rest ≤ n → page_of n page rest ≡ Err (OpenComment (line_of rest))
 at_open n page [] open_here enough = absurd (no_open open_here.0)
   where
     no_open : false ≡ true → ⊥
@@ -72,7 +72,7 @@ long text = subst (λ n. n ≤ length text) (sym (length-map {B = Char} text (λ
 pub tokens_given : (text : List ℕ) (tokens : List Token) → LexesText text (Ok tokens) → tokens_of text ≡ Ok tokens
 tokens_given text tokens (no_nul, page, (pieces, cut, made), are) =
     let left = behind_pieces (length text) no_page (on_line_one text) pieces [] cut (long text) in
-    ap (λ nul. tokens_unless nul text) no_nul ∙ ap page_tokens (left.same ∙ at_end left.count (put_all no_page pieces)) ∙ ap (λ (p : Page). Ok p.tokens) (sym made) ∙ ap Ok (sym are)
+    ap (λ nul. tokens_unless nul text) no_nul ∙ ap page_tokens (left.same ∙ at_end left.count (put_all no_page pieces)) ∙ ap (λ (p : LinesSoFar). Ok p.tokens) (sym made) ∙ ap Ok (sym are)
 
 -- so is its fault, but for want of memory
 pub fault_given : (text : List ℕ) (fault : LexFault) → IsAnswer {A = List Token} (Err fault) → LexesText text (Err fault) → tokens_of text ≡ Err fault

@@ -3,8 +3,8 @@ use Rattle.std.specs.Prelude.{ℕ, zero, suc, Bool, false, if◌then◌else◌, 
 use Rattle.std.specs.List.{flat_map, join_with_byte}
 use lib.Chars.{codes}
 use Rattle.pp_tokens.specs.Cleaning.{Char, bytes_of, on_line_one, first_nul}
-use Rattle.pp_tokens.specs.Cut.{Page, no_page, put, piece_at, header_may_stand, line_of}
-use Rattle.pp_tokens.specs.declared.piece.What.{What}
+use Rattle.pp_tokens.specs.Cut.{LinesSoFar, no_page, put, piece_at, header_may_stand, line_of}
+use Rattle.pp_tokens.specs.declared.piece.PieceKind.{PieceKind}
 use Rattle.pp_tokens.specs.declared.token.Token.{Token}
 use Rattle.pp_tokens.specs.declared.fault.LexFault.{LexFault}
 use Rattle.pp_tokens.specs.declared.fault.LexFault.TheVariants.{NulByte, OpenComment}
@@ -36,18 +36,18 @@ abbrev pub text_of : DefValue → List ℕ
 text_of def = def.name ++ list_text def.params def.variadic ++ codes " " ++ body_text def.body
 
 -- the page after a piece, by the one after the rest of the text; a comment is open where no piece is in front
-abbrev pub page_behind : (Page → List Char → Result Page LexFault) → Page → List Char → Option (What × ℕ) → Result Page LexFault
+abbrev pub page_behind : (LinesSoFar → List Char → Result LinesSoFar LexFault) → LinesSoFar → List Char → Option (PieceKind × ℕ) → Result LinesSoFar LexFault
 page_behind rest page chars None = Err (OpenComment (line_of chars))
 page_behind rest page chars (Some piece) = rest (put page piece.0 (take piece.1 chars)) (drop piece.1 chars)
 
 -- the page that is made of a text in which at most so many pieces are left (C17 5.1.1.2, phase 3)
-abbrev pub page_of : ℕ → Page → List Char → Result Page LexFault
+abbrev pub page_of : ℕ → LinesSoFar → List Char → Result LinesSoFar LexFault
 page_of zero page chars = Ok page
 page_of (suc n) page [] = Ok page
 page_of (suc n) page (c ∷ cs) = page_behind (page_of n) page (c ∷ cs) (piece_at false (header_may_stand page.tokens) (bytes_of (c ∷ cs)))
 
 -- the tokens of a page
-abbrev pub page_tokens : Result Page LexFault → Result (List Token) LexFault
+abbrev pub page_tokens : Result LinesSoFar LexFault → Result (List Token) LexFault
 page_tokens (Ok page) = Ok page.tokens
 page_tokens (Err fault) = Err fault
 

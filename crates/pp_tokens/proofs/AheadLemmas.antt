@@ -6,8 +6,8 @@ use Rattle.std.proofs.lemmas.List.{take-append-drop}
 use Rattle.std.specs.Option.{option_map}
 use borrow.Author.Tests.{eqb-true}
 use lib.Chars.{codes}
-use Rattle.pp_tokens.specs.declared.piece.What.{What}
-use Rattle.pp_tokens.specs.declared.piece.What.TheVariants.{Blank, Comment, Word}
+use Rattle.pp_tokens.specs.declared.piece.PieceKind.{PieceKind}
+use Rattle.pp_tokens.specs.declared.piece.PieceKind.TheVariants.{Blank, Comment, Word}
 use Rattle.pp_tokens.specs.declared.token.Kind.{Kind}
 use Rattle.pp_tokens.specs.declared.token.Kind.TheVariants.{LoneQuote}
 use Rattle.pp_tokens.specs.declared.token.Token.{Token}
@@ -190,12 +190,12 @@ no_both : (o : Option Kind) (k : Kind) → o ≡ None → o ≡ Some k → ⊥
 no_both o k none some = cc
 
 piece_by : (t u v w : Bool) (m : ℕ) (o : Option ℕ) (found k : Option (Kind × ℕ)) → t ≡ false → u ≡ false → v ≡ false → w ≡ false → found ≡ k →
-    cond t (Some (Blank, 1)) (cond u (Some (Blank, 1)) (cond v (Some (Comment, m)) (cond w (option_map {U = What × ℕ} (λ n. (Comment, 2 + n)) o) (option_map {U = What × ℕ} (λ (f : Kind × ℕ). (Word f.0, f.1)) found)))) ≡ option_map {U = What × ℕ} (λ (f : Kind × ℕ). (Word f.0, f.1)) k
+    cond t (Some (Blank, 1)) (cond u (Some (Blank, 1)) (cond v (Some (Comment, m)) (cond w (option_map {U = PieceKind × ℕ} (λ n. (Comment, 2 + n)) o) (option_map {U = PieceKind × ℕ} (λ (f : Kind × ℕ). (Word f.0, f.1)) found)))) ≡ option_map {U = PieceKind × ℕ} (λ (f : Kind × ℕ). (Word f.0, f.1)) k
 piece_by true u v w m o found k et eu ev ew is = cc
 piece_by false true v w m o found k et eu ev ew is = cc
 piece_by false false true w m o found k et eu ev ew is = cc
 piece_by false false false true m o found k et eu ev ew is = cc
-piece_by false false false false m o found k et eu ev ew is = ap (option_map {U = What × ℕ} (λ (f : Kind × ℕ). (Word f.0, f.1))) is
+piece_by false false false false m o found k et eu ev ew is = ap (option_map {U = PieceKind × ℕ} (λ (f : Kind × ℕ). (Word f.0, f.1))) is
 
 some_left : (r : List ℕ) (n : ℕ) → 1 ≤ n → 1 ≤ length r → take n r ≢ []
 some_left [] n some filled is = absurd (omega arith)

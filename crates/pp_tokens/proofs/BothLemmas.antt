@@ -4,14 +4,14 @@ use Rattle.std.proofs.lemmas.List.{length-map}
 use Rattle.std.specs.Option.{unwrap_or, option_map}
 use borrow.Author.Tests.{eqb-true, eqb-false}
 use lib.Chars.{codes}
-use Rattle.pp_tokens.specs.declared.piece.What.{What}
-use Rattle.pp_tokens.specs.declared.piece.What.TheVariants.{Blank, LineEnd, Comment, Word}
+use Rattle.pp_tokens.specs.declared.piece.PieceKind.{PieceKind}
+use Rattle.pp_tokens.specs.declared.piece.PieceKind.TheVariants.{Blank, LineEnd, Comment, Word}
 use Rattle.pp_tokens.specs.declared.token.Kind.{Kind}
 use Rattle.pp_tokens.specs.declared.token.Kind.TheVariants.{Header}
 use Rattle.pp_tokens.specs.declared.token.Token.{Token}
 use Rattle.pp_tokens.specs.Cleaning.{Char, bytes_of, on_line_one}
 use Rattle.pp_tokens.specs.Kinds.{begins, is_blank, kind_of}
-use Rattle.pp_tokens.specs.Cut.{longest, longest_within, longer, token_or, header_name, line_rest, up_to_close, piece_at, Piece, Page, no_page, put, put_all, with_token, chars_of, header_may_stand, AreCut, IsCut}
+use Rattle.pp_tokens.specs.Cut.{longest, longest_within, longer, token_or, header_name, line_rest, up_to_close, piece_at, Piece, LinesSoFar, no_page, put, put_all, with_token, chars_of, header_may_stand, AreCut, IsCut}
 use Rattle.pp_tokens.specs.Printing.{SameTokens, GivesBoth}
 use Rattle.pp_tokens.proofs.ScanLemmas.{Within, piece-within}
 use Rattle.pp_tokens.proofs.UniqueLemmas.{head_of}
@@ -20,15 +20,15 @@ pub bytes_back : (s : List ℕ) → bytes_of (on_line_one s) ≡ s
 bytes_back [] = refl
 bytes_back (b ∷ bs) = ap (λ xs. b ∷ xs) (bytes_back bs)
 
-what_of : Option (What × ℕ) → What
+what_of : Option (PieceKind × ℕ) → PieceKind
 what_of o = (unwrap_or o (LineEnd, 0)).0
 
-count_in : Option (What × ℕ) → ℕ
+count_in : Option (PieceKind × ℕ) → ℕ
 count_in o = (unwrap_or o (LineEnd, 0)).1
 
 -- a token in front: no comment begins, and the token is the longest
 front_by : (t u v w : Bool) (m : ℕ) (o : Option ℕ) (r : Option (Kind × ℕ)) (k : Kind) (n : ℕ) →
-    cond t (Some (Blank, 1)) (cond u (Some (Blank, 1)) (cond v (Some (Comment, m)) (cond w (option_map {U = What × ℕ} (λ n. (Comment, 2 + n)) o) (option_map {U = What × ℕ} (λ (f : Kind × ℕ). (Word f.0, f.1)) r)))) ≡ Some (Word k, n) →
+    cond t (Some (Blank, 1)) (cond u (Some (Blank, 1)) (cond v (Some (Comment, m)) (cond w (option_map {U = PieceKind × ℕ} (λ n. (Comment, 2 + n)) o) (option_map {U = PieceKind × ℕ} (λ (f : Kind × ℕ). (Word f.0, f.1)) r)))) ≡ Some (Word k, n) →
     (v ≡ false) × (w ≡ false) × (r ≡ Some (k, n))
 unfolding what_of count_in
 front_by true u v w m o r k n is = let wrong : Blank ≡ Word k = ap what_of is in cc
@@ -59,11 +59,11 @@ longest-none bytes zero k n is i more most = cc
 longest-none bytes (suc m) k n is i more most = none_step bytes m (kind_of (take (suc m) bytes)) k n refl is (longest-none bytes m k n) i more most (eqb i (suc m)) refl
 
 -- in one text no line ends
-abbrev pub NoEnd : Option (What × ℕ) → Type 0
+abbrev pub NoEnd : Option (PieceKind × ℕ) → Type 0
 NoEnd None = Unit {0}
 NoEnd (Some x) = x.0 ≢ LineEnd
 
-pub pick : (t : Bool) (x y : Option (What × ℕ)) → NoEnd x → NoEnd y → NoEnd (cond t x y)
+pub pick : (t : Bool) (x y : Option (PieceKind × ℕ)) → NoEnd x → NoEnd y → NoEnd (cond t x y)
 pick true x y first second = first
 pick false x y first second = second
 
@@ -80,7 +80,7 @@ pub token_no_end : (o : Option ℕ) (bytes : List ℕ) → NoEnd (token_or o byt
 token_no_end (Some n) bytes = word_no_end Header
 token_no_end None bytes = by (longest bytes)
   where
-    by : (r : Option (Kind × ℕ)) → NoEnd (option_map {U = What × ℕ} (λ (f : Kind × ℕ). (Word f.0, f.1)) r)
+    by : (r : Option (Kind × ℕ)) → NoEnd (option_map {U = PieceKind × ℕ} (λ (f : Kind × ℕ). (Word f.0, f.1)) r)
     by None = tt
     by (Some f) = word_no_end f.0
 
@@ -89,7 +89,7 @@ piece_no_end header [] = tt
 piece_no_end header (b ∷ bs) =
     pick (eqb b 10) _ _ blank_no_end (pick (is_blank b) _ _ blank_no_end (pick (begins (codes "//") (b ∷ bs)) _ _ comment_no_end (pick (begins (codes "/*") (b ∷ bs)) _ _ (by (up_to_close (drop 1 bs))) (token_no_end (cond header (header_name (b ∷ bs)) None) (b ∷ bs)))))
   where
-    by : (o : Option ℕ) → NoEnd (option_map {U = What × ℕ} (λ n. (Comment, 2 + n)) o)
+    by : (o : Option ℕ) → NoEnd (option_map {U = PieceKind × ℕ} (λ n. (Comment, 2 + n)) o)
     by None = tt
     by (Some n) = comment_no_end
 
@@ -97,17 +97,17 @@ pub no_line_end : (header : Bool) (bytes : List ℕ) (n : ℕ) → piece_at fals
 no_line_end header bytes n is = subst NoEnd is (piece_no_end header bytes) refl
 
 -- the first token stays the first
-kept_word : (page : Page) (a : Token) (ts now : List Token) (kind : Kind) (chars : List Char) → page.tokens ≡ now → now ≡ a ∷ ts → (more : List Token) × ((with_token page now kind chars).tokens ≡ a ∷ more)
+kept_word : (page : LinesSoFar) (a : Token) (ts now : List Token) (kind : Kind) (chars : List Char) → page.tokens ≡ now → now ≡ a ∷ ts → (more : List Token) × ((with_token page now kind chars).tokens ≡ a ∷ more)
 kept_word page a ts [] kind chars is some = cc
 kept_word page a ts (x ∷ xs) kind chars is some = (ts ++ record { kind = kind; text = bytes_of chars; space = page.space } ∷ [], ap (λ (ys : List Token). ys ++ record { kind = kind; text = bytes_of chars; space = page.space } ∷ []) (is ∙ some))
 
-kept_put : (page : Page) (a : Token) (ts : List Token) (what : What) (chars : List Char) → what ≢ LineEnd → page.tokens ≡ a ∷ ts → (more : List Token) × ((put page what chars).tokens ≡ a ∷ more)
+kept_put : (page : LinesSoFar) (a : Token) (ts : List Token) (what : PieceKind) (chars : List Char) → what ≢ LineEnd → page.tokens ≡ a ∷ ts → (more : List Token) × ((put page what chars).tokens ≡ a ∷ more)
 kept_put page a ts Blank chars not_end is = (ts, is)
 kept_put page a ts Comment chars not_end is = (ts, is)
 kept_put page a ts LineEnd chars not_end is = absurd (not_end refl)
 kept_put page a ts (Word kind) chars not_end is = kept_word page a ts page.tokens kind chars refl is
 
-first_kept : (page : Page) (a : Token) (ts : List Token) (pieces : List Piece) (rest : List Char) → AreCut false page pieces rest → page.tokens ≡ a ∷ ts → (more : List Token) × ((put_all page pieces).tokens ≡ a ∷ more)
+first_kept : (page : LinesSoFar) (a : Token) (ts : List Token) (pieces : List Piece) (rest : List Char) → AreCut false page pieces rest → page.tokens ≡ a ∷ ts → (more : List Token) × ((put_all page pieces).tokens ≡ a ∷ more)
 first_kept page a ts [] rest cut is = (ts, is)
 first_kept page a ts (p ∷ ps) rest cut is =
     let next = kept_put page a ts p.what p.chars (λ end. no_line_end (header_may_stand page.tokens) (bytes_of (p.chars ++ chars_of ps ++ rest)) (length p.chars) (cut.0 ∙ ap (λ w. Some (w, length p.chars)) end)) is in
@@ -123,7 +123,7 @@ unfolding total
 total_more [] t = omega arith
 total_more (x ∷ xs) t = let inner = total_more xs t in omega (arith, inner)
 
-total_word : (page : Page) (now : List Token) (kind : Kind) (chars : List Char) → page.tokens ≡ now → total (with_token page now kind chars).tokens ≤ total now + length chars
+total_word : (page : LinesSoFar) (now : List Token) (kind : Kind) (chars : List Char) → page.tokens ≡ now → total (with_token page now kind chars).tokens ≤ total now + length chars
 unfolding total
 total_word page [] kind chars is = omega (arith, length-map chars (λ (c : Char). c.byte))
 total_word page (x ∷ xs) kind chars is =
@@ -132,14 +132,14 @@ total_word page (x ∷ xs) kind chars is =
     let same : total page.tokens ≡ total (x ∷ xs) = ap total is in
     omega (arith, grown, same, length-map chars (λ (c : Char). c.byte))
 
-total_put : (page : Page) (what : What) (chars : List Char) → total (put page what chars).tokens ≤ total page.tokens + length chars
+total_put : (page : LinesSoFar) (what : PieceKind) (chars : List Char) → total (put page what chars).tokens ≤ total page.tokens + length chars
 unfolding total
 total_put page Blank chars = omega arith
 total_put page Comment chars = omega arith
 total_put page LineEnd chars = omega arith
 total_put page (Word kind) chars = total_word page page.tokens kind chars refl
 
-total_all : (page : Page) (pieces : List Piece) → total (put_all page pieces).tokens ≤ total page.tokens + length (chars_of pieces)
+total_all : (page : LinesSoFar) (pieces : List Piece) → total (put_all page pieces).tokens ≤ total page.tokens + length (chars_of pieces)
 total_all page [] = omega arith
 total_all page (p ∷ ps) = omega (arith, total_all (put page p.what p.chars) ps, total_put page p.what p.chars, length-append p.chars (chars_of ps))
 
@@ -150,7 +150,7 @@ total_same [] (u ∷ us) same = absurd same
 total_same (t ∷ ts) [] same = absurd same
 total_same (t ∷ ts) (u ∷ us) same = let text : length t.text ≡ length u.text = ap length same.0.text in let rest = total_same ts us same.1 in omega (arith, text, rest)
 
-too_short : (t u : Token) (what : What) (chars : List Char) (pieces : List Piece) (found : List Token) (s : List ℕ) → s ≡ t.text ++ u.text → piece_at false false s ≡ Some (what, length chars) →
+too_short : (t u : Token) (what : PieceKind) (chars : List Char) (pieces : List Piece) (found : List Token) (s : List ℕ) → s ≡ t.text ++ u.text → piece_at false false s ≡ Some (what, length chars) →
     found ≡ (put_all (put no_page what chars) pieces).tokens → length s ≡ length chars + length (chars_of pieces) → SameTokens found (t ∷ u ∷ []) →
     total (put_all (put no_page what chars) pieces).tokens ≤ 0 + length (chars_of pieces) → ⊥
 unfolding total
@@ -162,7 +162,7 @@ too_short t u what chars pieces found s whole stands is long same most =
     omega arith
 
 -- the first piece is the first token
-both_by : (t u : Token) (what : What) (chars : List Char) (pieces : List Piece) (found : List Token) (s : List ℕ) → s ≡ t.text ++ u.text → piece_at false false s ≡ Some (what, length chars) → AreCut false (put no_page what chars) pieces [] →
+both_by : (t u : Token) (what : PieceKind) (chars : List Char) (pieces : List Piece) (found : List Token) (s : List ℕ) → s ≡ t.text ++ u.text → piece_at false false s ≡ Some (what, length chars) → AreCut false (put no_page what chars) pieces [] →
     found ≡ (put_all (put no_page what chars) pieces).tokens → length s ≡ length chars + length (chars_of pieces) → SameTokens found (t ∷ u ∷ []) → (k : Kind) × (piece_at false false s ≡ Some (Word k, length t.text))
 unfolding total
 both_by t u (Word k) chars pieces found s whole stands cut is long same =
@@ -175,15 +175,15 @@ both_by t u Blank chars pieces found s whole stands cut is long same = absurd (t
 both_by t u Comment chars pieces found s whole stands cut is long same = absurd (too_short t u Comment chars pieces found s whole stands is long same (total_all (put no_page Comment chars) pieces))
 both_by t u LineEnd chars pieces found s whole stands cut is long same = absurd (no_line_end false s (length chars) stands)
 
-both_pieces : (t u : Token) (pieces : List Piece) (page : Page) (found : List Token) → IsCut false no_page (on_line_one (t.text ++ u.text)) pieces [] → page ≡ put_all no_page pieces → found ≡ page.tokens → SameTokens found (t ∷ u ∷ []) →
+both_pieces : (t u : Token) (pieces : List Piece) (page : LinesSoFar) (found : List Token) → IsCut false no_page (on_line_one (t.text ++ u.text)) pieces [] → page ≡ put_all no_page pieces → found ≡ page.tokens → SameTokens found (t ∷ u ∷ []) →
     (k : Kind) × (piece_at false false (t.text ++ u.text) ≡ Some (Word k, length t.text))
-both_pieces t u [] page found cut final is same = absurd (subst (λ (ts : List Token). SameTokens ts (t ∷ u ∷ [])) (is ∙ ap (λ (p : Page). p.tokens) final) same)
+both_pieces t u [] page found cut final is same = absurd (subst (λ (ts : List Token). SameTokens ts (t ∷ u ∷ [])) (is ∙ ap (λ (p : LinesSoFar). p.tokens) final) same)
 both_pieces t u (p ∷ ps) page found cut final is same =
     let head = head_of false no_page (on_line_one (t.text ++ u.text)) p ps [] cut in
     let stands : piece_at false false (t.text ++ u.text) ≡ Some (p.what, length p.chars) = ap (piece_at false false) (sym (bytes_back (t.text ++ u.text))) ∙ head.stands in
     let long : length (t.text ++ u.text) ≡ length p.chars + length (chars_of ps) =
     sym (length-map {B = Char} (t.text ++ u.text) (λ b. record { byte = b; line = 1 })) ∙ ap length cut.whole ∙ length-append (chars_of (p ∷ ps)) [] ∙ (let sum = length-append p.chars (chars_of ps) in omega (arith, sum)) in
-    both_by t u p.what p.chars ps found (t.text ++ u.text) refl stands cut.each.1 (is ∙ ap (λ (q : Page). q.tokens) final) long same
+    both_by t u p.what p.chars ps found (t.text ++ u.text) refl stands cut.each.1 (is ∙ ap (λ (q : LinesSoFar). q.tokens) final) long same
 
 pub both-front : (t u : Token) → GivesBoth t u → (k : Kind) × (piece_at false false (t.text ++ u.text) ≡ Some (Word k, length t.text))
 both-front t u gives =

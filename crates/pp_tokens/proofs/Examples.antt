@@ -2,7 +2,7 @@
 use Rattle.std.proofs.Common.{◌≡◌, [], ◌∷◌, Some, None, true, false, refl}
 use lib.Chars.{codes}
 use Rattle.pp_tokens.specs.declared.token.Kind.TheVariants.{Identifier, Number, Char, Str, Punct, Header, LoneQuote}
-use Rattle.pp_tokens.specs.declared.piece.What.TheVariants.{Comment, Word}
+use Rattle.pp_tokens.specs.declared.piece.PieceKind.TheVariants.{Comment, Word}
 use Rattle.pp_tokens.specs.Cleaning.{bytes_of, cleaned}
 use Rattle.pp_tokens.specs.Cut.{longest, piece_at}
 

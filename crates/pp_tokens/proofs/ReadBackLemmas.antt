@@ -3,13 +3,13 @@ use Rattle.std.proofs.Common.{◌≡◌, ℕ, eqb, Bool, true, false, cond, ◌&
 use Rattle.std.proofs.lemmas.List.{length-map}
 use Rattle.std.specs.List.{AllByRecursion}
 use lib.Chars.{codes}
-use Rattle.pp_tokens.specs.declared.piece.What.{What}
-use Rattle.pp_tokens.specs.declared.piece.What.TheVariants.{Blank, Word}
+use Rattle.pp_tokens.specs.declared.piece.PieceKind.{PieceKind}
+use Rattle.pp_tokens.specs.declared.piece.PieceKind.TheVariants.{Blank, Word}
 use Rattle.pp_tokens.specs.declared.token.Kind.{Kind}
 use Rattle.pp_tokens.specs.declared.token.Token.{Token}
 use Rattle.pp_tokens.specs.Cleaning.{Char, bytes_of, on_line_one, first_nul}
 use Rattle.pp_tokens.specs.Kinds.{same, kind_of}
-use Rattle.pp_tokens.specs.Cut.{Page, Piece, no_page, put, put_all, with_token, chars_of, piece_at, header_may_stand, IsCut, LexesText}
+use Rattle.pp_tokens.specs.Cut.{LinesSoFar, Piece, no_page, put, put_all, with_token, chars_of, piece_at, header_may_stand, IsCut, LexesText}
 use Rattle.pp_tokens.specs.Printing.{SameToken, SameTokens, IsParted, IsGap, Prints}
 use Rattle.pp_tokens.specs.declared.fault.LexFault.{LexFault}
 use Rattle.pp_tokens.specs.Laws.{IsAnswer, IsPrintable, PrintedIsReadBack}
@@ -22,7 +22,7 @@ on_line_append [] ys = refl
 on_line_append (x ∷ xs) ys = ap (λ (cs : List Char). record { byte = x; line = 1 } ∷ cs) (on_line_append xs ys)
 
 -- a cut of the text that puts these tokens on the page
-record Laid (page : Page) (ts : List Token) (text : List ℕ) : Type 0 where
+record Laid (page : LinesSoFar) (ts : List Token) (text : List ℕ) : Type 0 where
   pieces : List Piece
   cut : IsCut false page (on_line_one text) pieces []
   new : List Token
@@ -30,7 +30,7 @@ record Laid (page : Page) (ts : List Token) (text : List ℕ) : Type 0 where
   same : SameTokens new ts
 
 -- a piece in front of a cut
-cut_first : (page : Page) (what : What) (front r : List ℕ) (pieces : List Piece) → piece_at false (header_may_stand page.tokens) (front ++ r) ≡ Some (what, length front) →
+cut_first : (page : LinesSoFar) (what : PieceKind) (front r : List ℕ) (pieces : List Piece) → piece_at false (header_may_stand page.tokens) (front ++ r) ≡ Some (what, length front) →
     IsCut false (put page what (on_line_one front)) (on_line_one r) pieces [] → IsCut false page (on_line_one (front ++ r)) (record { what = what; chars = on_line_one front } ∷ pieces) []
 cut_first page what front r pieces stands cut =
     let whole : on_line_one (front ++ r) ≡ on_line_one front ++ chars_of pieces ++ [] = on_line_append front r ∙ ap (λ (cs : List Char). on_line_one front ++ cs) cut.whole ∙ sym (append_assoc (on_line_one front) (chars_of pieces) []) in
@@ -45,21 +45,21 @@ cut_first page what front r pieces stands cut =
     }
 
 -- the token that a piece makes
-made : Page → List Token → Kind → List ℕ → Token
+made : LinesSoFar → List Token → Kind → List ℕ → Token
 made page [] kind text = record { kind = kind; text = bytes_of (on_line_one text); space = false }
 made page (t ∷ ts) kind text = record { kind = kind; text = bytes_of (on_line_one text); space = page.space }
 
-made_there : (page : Page) (now : List Token) (kind : Kind) (text : List ℕ) → page.tokens ≡ now → (with_token page now kind (on_line_one text)).tokens ≡ page.tokens ++ made page now kind text ∷ []
+made_there : (page : LinesSoFar) (now : List Token) (kind : Kind) (text : List ℕ) → page.tokens ≡ now → (with_token page now kind (on_line_one text)).tokens ≡ page.tokens ++ made page now kind text ∷ []
 unfolding made
 made_there page [] kind text is = ap (λ (ts : List Token). ts ++ record { kind = kind; text = bytes_of (on_line_one text); space = false } ∷ []) (sym is)
 made_there page (t ∷ ts) kind text is = refl
 
-made_same : (page : Page) (now : List Token) (t : Token) → SameToken (made page now t.kind t.text) t
+made_same : (page : LinesSoFar) (now : List Token) (t : Token) → SameToken (made page now t.kind t.text) t
 unfolding made
 made_same page [] t = record { kind = refl; text = bytes_back t.text }
 made_same page (x ∷ xs) t = record { kind = refl; text = bytes_back t.text }
 
-laid_token : (page : Page) (t : Token) (ts : List Token) (r : List ℕ) → header_may_stand page.tokens ≡ false → kind_of t.text ≡ Some t.kind → Ahead t.text r → Laid (put page (Word t.kind) (on_line_one t.text)) ts r → Laid page (t ∷ ts) (t.text ++ r)
+laid_token : (page : LinesSoFar) (t : Token) (ts : List Token) (r : List ℕ) → header_may_stand page.tokens ≡ false → kind_of t.text ≡ Some t.kind → Ahead t.text r → Laid (put page (Word t.kind) (on_line_one t.text)) ts r → Laid page (t ∷ ts) (t.text ++ r)
 laid_token page t ts r header is ahead laid =
     let token : Token = made page page.tokens t.kind t.text in
     record {
@@ -70,7 +70,7 @@ laid_token page t ts r header is ahead laid =
       same = (made_same page page.tokens t, laid.same);
     }
 
-laid_blank : (page : Page) (ts : List Token) (r : List ℕ) → Laid (put page Blank (on_line_one (codes " "))) ts r → Laid page ts (32 ∷ r)
+laid_blank : (page : LinesSoFar) (ts : List Token) (r : List ℕ) → Laid (put page Blank (on_line_one (codes " "))) ts r → Laid page ts (32 ∷ r)
 laid_blank page ts r laid = record {
   pieces = record { what = Blank; chars = on_line_one (codes " ") } ∷ laid.pieces;
   cut = cut_first page Blank (codes " ") r laid.pieces refl laid.cut;
@@ -130,11 +130,11 @@ behind_of t (u ∷ ts) text all prints =
 
 -- the whole text
 
-gap_laid : (t u : Token) (page : Page) (ts : List Token) (gap rest : List ℕ) → IsGap t u gap → Laid (put page Blank (on_line_one (codes " "))) ts rest → Laid page ts rest → Laid page ts (gap ++ rest)
+gap_laid : (t u : Token) (page : LinesSoFar) (ts : List Token) (gap rest : List ℕ) → IsGap t u gap → Laid (put page Blank (on_line_one (codes " "))) ts rest → Laid page ts rest → Laid page ts (gap ++ rest)
 gap_laid t u page ts gap rest (inl spaced) blank plain = subst (λ g. Laid page ts (g ++ rest)) (sym spaced.0) (laid_blank page ts rest blank)
 gap_laid t u page ts gap rest (inr together) blank plain = subst (λ g. Laid page ts (g ++ rest)) (sym together.0) plain
 
-lay : (ts : List Token) (page : Page) (text : List ℕ) → AllByRecursion IsPrintable ts → NoHeader page.tokens ts → Prints ts text → Laid page ts text
+lay : (ts : List Token) (page : LinesSoFar) (text : List ℕ) → AllByRecursion IsPrintable ts → NoHeader page.tokens ts → Prints ts text → Laid page ts text
 lay [] page text all none prints =
     subst (Laid page []) (sym prints) (record { pieces = []; cut = record { whole = refl; each = tt }; new = []; tokens = sym (append-nil page.tokens); same = tt })
 lay (t ∷ []) page text all none prints =
@@ -142,7 +142,7 @@ lay (t ∷ []) page text all none prints =
     (laid_token page t [] [] (no_header_now page.tokens t [] none) all.0.kind (ahead-end t.kind t.text all.0.kind)
     (record { pieces = []; cut = record { whole = refl; each = tt }; new = []; tokens = sym (append-nil (put page (Word t.kind) (on_line_one t.text)).tokens); same = tt }))
 lay (t ∷ u ∷ ts) page text all none prints =
-    let next : Page = put page (Word t.kind) (on_line_one t.text) in
+    let next : LinesSoFar = put page (Word t.kind) (on_line_one t.text) in
     let there : next.tokens ≡ page.tokens ++ made page page.tokens t.kind t.text ∷ [] = made_there page page.tokens t.kind t.text refl in
     let none_next : NoHeader next.tokens (u ∷ ts) = subst (λ (xs : List Token). NoHeader xs (u ∷ ts)) (sym there) (no_header_next page.tokens t (made page page.tokens t.kind t.text) (u ∷ ts) (made_same page page.tokens t).text none) in
     let plain = lay (u ∷ ts) next prints.1 all.1 none_next prints.3 in
@@ -176,7 +176,7 @@ pub printed-lexes : PrintedIsReadBack
 unfolding NoHeader
 printed-lexes tokens text all none prints =
     let laid = lay tokens no_page text all none prints in
-    let page : Page = put_all no_page laid.pieces in
+    let page : LinesSoFar = put_all no_page laid.pieces in
     (page.tokens, (prints_nul tokens text all prints, page, (laid.pieces, laid.cut, refl), refl), subst (λ (ts : List Token). SameTokens ts tokens) (sym laid.tokens) laid.same)
 
 -- the same, from an answer that is known

@@ -3,13 +3,13 @@ use Rattle.std.proofs.Common.{◌≡◌, ℕ, ◌+◌, ◌≤◌, ◌<◌, eqb, 
 use Rattle.std.specs.Option.{unwrap_or, option_map}
 use lib.Chars.{codes}
 use Rattle.pp_tokens.specs.declared.line.Line.{Line}
-use Rattle.pp_tokens.specs.declared.piece.What.{What}
-use Rattle.pp_tokens.specs.declared.piece.What.TheVariants.{Blank, LineEnd, Comment, Word}
+use Rattle.pp_tokens.specs.declared.piece.PieceKind.{PieceKind}
+use Rattle.pp_tokens.specs.declared.piece.PieceKind.TheVariants.{Blank, LineEnd, Comment, Word}
 use Rattle.pp_tokens.specs.declared.token.Kind.{Kind}
 use Rattle.pp_tokens.specs.declared.token.Token.{Token}
 use Rattle.pp_tokens.specs.Cleaning.{Char, bytes_of, numbered, without_cr, trigraph, trigraph_of, replaced, without_trigraphs, spliced, cleaned}
 use Rattle.pp_tokens.specs.Kinds.{begins, is_blank}
-use Rattle.pp_tokens.specs.Cut.{header_name, up_to_close, Page, Piece, no_page, put, put_all, with_token, ended, lines_of, line_of, chars_of, piece_at, header_may_stand, AreCut}
+use Rattle.pp_tokens.specs.Cut.{header_name, up_to_close, LinesSoFar, Piece, no_page, put, put_all, with_token, ended, lines_of, line_of, chars_of, piece_at, header_may_stand, AreCut}
 use Rattle.pp_tokens.specs.Laws.{RiseFrom, LineNumbersRise}
 use Rattle.pp_tokens.proofs.ScanLemmas.{Within, piece-within}
 use Rattle.pp_tokens.proofs.BothLemmas.{NoEnd, pick, blank_no_end, comment_no_end, token_no_end}
@@ -98,31 +98,31 @@ rises low [] high below = tt
 rises low (l ∷ ls) high below = (below.0, rises l.number ls high below.1)
 
 -- the line that is begun stands above the lines before it, and what is left stands no earlier
-abbrev Fits : Page → List Token → ℕ → Type 0
+abbrev Fits : LinesSoFar → List Token → ℕ → Type 0
 Fits page [] n = Between 0 page.lines n
 Fits page (t ∷ ts) n = Between 0 page.lines page.number × (page.number ≤ n)
 
-fits_lines : (page : Page) (ts : List Token) (n : ℕ) → Fits page ts n → RiseFrom 0 (ended page.lines page.number ts)
+fits_lines : (page : LinesSoFar) (ts : List Token) (n : ℕ) → Fits page ts n → RiseFrom 0 (ended page.lines page.number ts)
 fits_lines page [] n fits = rises 0 page.lines n fits
 fits_lines page (t ∷ ts) n fits = rises 0 (page.lines ++ record { number = page.number; tokens = t ∷ ts } ∷ []) (n + 1) (between_more 0 page.lines (record { number = page.number; tokens = t ∷ ts }) (n + 1) fits.0 (omega (arith, fits.1)))
 
-fits_end : (page : Page) (ts : List Token) (n m : ℕ) → Fits page ts n → n < m → Between 0 (ended page.lines page.number ts) m
+fits_end : (page : LinesSoFar) (ts : List Token) (n m : ℕ) → Fits page ts n → n < m → Between 0 (ended page.lines page.number ts) m
 fits_end page [] n m fits less = between_up 0 page.lines n m (omega arith) fits
 fits_end page (t ∷ ts) n m fits less = between_more 0 page.lines (record { number = page.number; tokens = t ∷ ts }) m fits.0 (omega (arith, fits.1))
 
-fits_word : (page : Page) (now : List Token) (kind : Kind) (chars : List Char) (n : ℕ) → page.tokens ≡ now → n ≤ line_of chars → Fits page now n → Fits (with_token page now kind chars) (with_token page now kind chars).tokens (line_of chars)
+fits_word : (page : LinesSoFar) (now : List Token) (kind : Kind) (chars : List Char) (n : ℕ) → page.tokens ≡ now → n ≤ line_of chars → Fits page now n → Fits (with_token page now kind chars) (with_token page now kind chars).tokens (line_of chars)
 fits_word page [] kind chars n is least fits = (between_up 0 page.lines n (line_of chars) least fits, omega arith)
 fits_word page (t ∷ ts) kind chars n is least fits =
     subst (λ (xs : List Token). Fits (with_token page (t ∷ ts) kind chars) xs (line_of chars)) (sym (ap (λ (xs : List Token). xs ++ record { kind = kind; text = bytes_of chars; space = page.space } ∷ []) is))
     (fits.0, omega (arith, fits.1, least))
 
 -- a line ends at a line feed alone
-block_no_end : (o : Option ℕ) → NoEnd (option_map {U = What × ℕ} (λ n. (Comment, 2 + n)) o)
+block_no_end : (o : Option ℕ) → NoEnd (option_map {U = PieceKind × ℕ} (λ n. (Comment, 2 + n)) o)
 block_no_end None = tt
 block_no_end (Some n) = comment_no_end
 
-end_by : (t : Bool) (n : ℕ) (o : Option (What × ℕ)) → NoEnd o → cond t (Some (LineEnd, 1)) o ≡ Some (LineEnd, n) → (t ≡ true) × (n ≡ 1)
-end_by true n o no_end is = (refl, sym (ap (λ (x : Option (What × ℕ)). (unwrap_or x (LineEnd, 1)).1) is))
+end_by : (t : Bool) (n : ℕ) (o : Option (PieceKind × ℕ)) → NoEnd o → cond t (Some (LineEnd, 1)) o ≡ Some (LineEnd, n) → (t ≡ true) × (n ≡ 1)
+end_by true n o no_end is = (refl, sym (ap (λ (x : Option (PieceKind × ℕ)). (unwrap_or x (LineEnd, 1)).1) is))
 end_by false n o no_end is = absurd (subst NoEnd is no_end refl)
 
 end_at : (header : Bool) (b : ℕ) (bs : List ℕ) (n : ℕ) → piece_at true header (b ∷ bs) ≡ Some (LineEnd, n) → (eqb b 10 ≡ true) × (n ≡ 1)
@@ -130,15 +130,15 @@ end_at header b bs n is =
     end_by (eqb b 10) n _ (pick (is_blank b) _ _ blank_no_end (pick (begins (codes "//") (b ∷ bs)) _ _ comment_no_end (pick (begins (codes "/*") (b ∷ bs)) _ _ (block_no_end (up_to_close (drop 1 bs))) (token_no_end (cond header (header_name (b ∷ bs)) None) (b ∷ bs))))) is
 
 -- where a page stands behind a piece
-record Stands (page : Page) (rest : List Char) : Type 0 where
+record Stands (page : LinesSoFar) (rest : List Char) : Type 0 where
   line : ℕ
   fits : Fits page page.tokens line
   left : Ordered line rest
 
-some_chars : (header : Bool) (what : What) (chars rest : List Char) → piece_at true header (bytes_of (chars ++ rest)) ≡ Some (what, length chars) → 1 ≤ length chars
+some_chars : (header : Bool) (what : PieceKind) (chars rest : List Char) → piece_at true header (bytes_of (chars ++ rest)) ≡ Some (what, length chars) → 1 ≤ length chars
 some_chars header what chars rest is = (subst (Within (length (bytes_of (chars ++ rest)))) is (piece-within true header (bytes_of (chars ++ rest)))).0
 
-put_by : (page : Page) (what : What) (chars rest : List Char) (n : ℕ) → 1 ≤ length chars → (what ≡ LineEnd → (c : Char) × (chars ≡ c ∷ []) × (eqb c.byte 10 ≡ true)) → Ordered n (chars ++ rest) → Fits page page.tokens n → Stands (put page what chars) rest
+put_by : (page : LinesSoFar) (what : PieceKind) (chars rest : List Char) (n : ℕ) → 1 ≤ length chars → (what ≡ LineEnd → (c : Char) × (chars ≡ c ∷ []) × (eqb c.byte 10 ≡ true)) → Ordered n (chars ++ rest) → Fits page page.tokens n → Stands (put page what chars) rest
 put_by page Blank chars rest n some end are fits = record { line = n; fits = fits; left = behind_all n chars rest are }
 put_by page Comment chars rest n some end are fits = record { line = n; fits = fits; left = behind_all n chars rest are }
 put_by page (Word kind) [] rest n some end are fits = absurd (omega arith)
@@ -174,7 +174,7 @@ end_chars header (c ∷ cs) rest is =
     first_of d [] = d
     first_of d (x ∷ xs) = x
 
-rise_all : (page : Page) (pieces : List Piece) (n : ℕ) → AreCut true page pieces [] → Ordered n (chars_of pieces ++ []) → Fits page page.tokens n → RiseFrom 0 (lines_of (put_all page pieces))
+rise_all : (page : LinesSoFar) (pieces : List Piece) (n : ℕ) → AreCut true page pieces [] → Ordered n (chars_of pieces ++ []) → Fits page page.tokens n → RiseFrom 0 (lines_of (put_all page pieces))
 rise_all page [] n cut are fits = fits_lines page page.tokens n fits
 rise_all page (p ∷ ps) n cut are fits =
     let split : p.chars ++ chars_of ps ++ [] ≡ p.chars ++ (chars_of ps ++ []) = append_assoc p.chars (chars_of ps) [] in

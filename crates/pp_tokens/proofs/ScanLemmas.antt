@@ -4,11 +4,11 @@ use Rattle.std.proofs.lemmas.List.{take-append-drop, length-take-le, length-map}
 use Rattle.std.specs.Option.{option_map, is_some}
 use lib.Chars.{codes}
 use Rattle.pp_tokens.specs.declared.token.Kind.{Kind}
-use Rattle.pp_tokens.specs.declared.piece.What.{What}
-use Rattle.pp_tokens.specs.declared.piece.What.TheVariants.{Blank, LineEnd, Comment, Word}
+use Rattle.pp_tokens.specs.declared.piece.PieceKind.{PieceKind}
+use Rattle.pp_tokens.specs.declared.piece.PieceKind.TheVariants.{Blank, LineEnd, Comment, Word}
 use Rattle.pp_tokens.specs.Cleaning.{Char, bytes_of}
 use Rattle.pp_tokens.specs.Kinds.{begins, is_blank, kind_of}
-use Rattle.pp_tokens.specs.Cut.{Page, Piece, put, put_all, chars_of, piece_at, header_may_stand, header_name, up_to, up_to_close, line_rest, longest, longest_within, longer, token_or, token_at, AreCut, IsCut, IsOpen, Makes, LeavesOpen}
+use Rattle.pp_tokens.specs.Cut.{LinesSoFar, Piece, put, put_all, chars_of, piece_at, header_may_stand, header_name, up_to, up_to_close, line_rest, longest, longest_within, longer, token_or, token_at, AreCut, IsCut, IsOpen, Makes, LeavesOpen}
 use Rattle.pp_tokens.specs.Scan.{first_byte, Takes, Steps, Scans, scanned}
 use Rattle.pp_tokens.specs.declared.fault.LexFault.{LexFault}
 use Rattle.pp_tokens.specs.declared.fault.LexFault.TheVariants.{NulByte, OpenComment, NoMemory}
@@ -16,8 +16,8 @@ use Rattle.pp_tokens.proofs.Bounds.{AtMost, one_of, more}
 use Rattle.pp_tokens.proofs.TokenLemmas.{scanned-longest}
 
 -- what the rest of the text comes to is what the whole comes to
-pub record Continues (lines : Bool) (page : Page) (chars : List Char) (now : Page) (left : List Char) : Type 0 where
-  pub makes : (final : Page) → Makes lines now left final → Makes lines page chars final
+pub record Continues (lines : Bool) (page : LinesSoFar) (chars : List Char) (now : LinesSoFar) (left : List Char) : Type 0 where
+  pub makes : (final : LinesSoFar) → Makes lines now left final → Makes lines page chars final
   pub opens : (line : ℕ) → LeavesOpen lines now left line → LeavesOpen lines page chars line
 
 pub take-one_more : (i : ℕ) (cs : List Char) → bytes_of (take (i + 1) cs) ≡ bytes_of (take i cs) ++ bytes_of (take 1 (drop i cs))
@@ -102,12 +102,12 @@ piece-within lines header (b ∷ bs) =
     (one_of Some_bytes header (header_name (b ∷ bs)) None (header-some (b ∷ bs)) tt)
     (one_of (AtMost (suc (length bs))) header (header_name (b ∷ bs)) None (header-most (b ∷ bs)) tt)))))
 
-pub piece-fits : (lines header : Bool) (cs : List Char) (what : What) (n : ℕ) → piece_at lines header (bytes_of cs) ≡ Some (what, n) → (1 ≤ n) × (n ≤ length cs)
+pub piece-fits : (lines header : Bool) (cs : List Char) (what : PieceKind) (n : ℕ) → piece_at lines header (bytes_of cs) ≡ Some (what, n) → (1 ≤ n) × (n ≤ length cs)
 piece-fits lines header cs what n is =
     let fits : (1 ≤ n) × (n ≤ length (bytes_of cs)) = subst (Within (length (bytes_of cs))) is (piece-within lines header (bytes_of cs)) in
     (fits.0, omega (arith, fits.1, length-map cs (λ (c : Char). c.byte)))
 
-pub cut-more : (lines : Bool) (page : Page) (chars : List Char) (now : Page) (left : List Char) (what : What) (n : ℕ) (pieces : List Piece) (rest : List Char) →
+pub cut-more : (lines : Bool) (page : LinesSoFar) (chars : List Char) (now : LinesSoFar) (left : List Char) (what : PieceKind) (n : ℕ) (pieces : List Piece) (rest : List Char) →
     piece_at lines (header_may_stand page.tokens) (bytes_of chars) ≡ Some (what, n) → now ≡ put page what (take n chars) → left ≡ drop n chars →
     IsCut lines now left pieces rest → IsCut lines page chars (record { what = what; chars = take n chars } ∷ pieces) rest
 cut-more lines page chars now left what n pieces rest stands made behind cut =
@@ -118,21 +118,21 @@ cut-more lines page chars now left what n pieces rest stands made behind cut =
       whole = whole;
       each = (
         ap (λ (cs : List Char). piece_at lines (header_may_stand page.tokens) (bytes_of cs)) (sym whole) ∙ stands ∙ ap (λ k. Some (what, k)) (sym (length-take-le n chars fits.1)),
-        subst (λ (p : Page). AreCut lines p pieces rest) made cut.each,
+        subst (λ (p : LinesSoFar). AreCut lines p pieces rest) made cut.each,
       );
     }
 
-pub continues-none : (lines : Bool) (page : Page) (chars : List Char) → Continues lines page chars page chars
+pub continues-none : (lines : Bool) (page : LinesSoFar) (chars : List Char) → Continues lines page chars page chars
 continues-none lines page chars = record { makes = λ final m. m; opens = λ line o. o }
 
-pub continues-more : (lines : Bool) (page : Page) (chars : List Char) (now : Page) (left : List Char) (next : Page) (behind : List Char) →
+pub continues-more : (lines : Bool) (page : LinesSoFar) (chars : List Char) (now : LinesSoFar) (left : List Char) (next : LinesSoFar) (behind : List Char) →
     Continues lines page chars now left → Takes lines now left next behind → Continues lines page chars next behind
 continues-more lines page chars now left next behind so_far takes = record {
   makes = λ final m.
       so_far.makes final (
         record { what = takes.what; chars = take takes.count left } ∷ m.0,
         cut-more lines now left next behind takes.what takes.count m.0 [] takes.stands takes.made takes.rest m.1,
-        m.2 ∙ ap (λ (p : Page). put_all p m.0) takes.made,
+        m.2 ∙ ap (λ (p : LinesSoFar). put_all p m.0) takes.made,
       );
   opens = λ line o.
       so_far.opens line (
@@ -145,17 +145,17 @@ continues-more lines page chars now left next behind so_far takes = record {
 }
 
 -- nothing is left to cut
-pub makes-itself : (lines : Bool) (page : Page) (chars : List Char) → None ≡ first_byte chars → Makes lines page chars page
+pub makes-itself : (lines : Bool) (page : LinesSoFar) (chars : List Char) → None ≡ first_byte chars → Makes lines page chars page
 makes-itself lines page [] is = ([], record { whole = refl; each = tt }, refl)
 makes-itself lines page (c ∷ cs) is = cc
 
-pub takes-smaller : (lines : Bool) (now next : Page) (left behind : List Char) → Takes lines now left next behind → length behind < length left
+pub takes-smaller : (lines : Bool) (now next : LinesSoFar) (left behind : List Char) → Takes lines now left next behind → length behind < length left
 takes-smaller lines now next left behind takes =
     let fits = piece-fits lines (header_may_stand now.tokens) left takes.what takes.count takes.stands in
     let long : length behind ≡ length left - takes.count = ap length takes.rest ∙ length-drop takes.count left in
     omega (arith, fits.0, fits.1)
 
-none_by : (t u v w : Bool) (a b c : What × ℕ) (o k : Option (What × ℕ)) → cond t (Some a) (cond u (Some b) (cond v (Some c) (cond w o k))) ≡ None → (t ≡ false → u ≡ false → k ≡ None → ⊥) → (w ≡ true) × (o ≡ None)
+none_by : (t u v w : Bool) (a b c : PieceKind × ℕ) (o k : Option (PieceKind × ℕ)) → cond t (Some a) (cond u (Some b) (cond v (Some c) (cond w o k))) ≡ None → (t ≡ false → u ≡ false → k ≡ None → ⊥) → (w ≡ true) × (o ≡ None)
 none_by true u v w a b c o k is never = cc
 none_by false true v w a b c o k is never = cc
 none_by false false true w a b c o k is never = cc
@@ -165,9 +165,9 @@ none_by false false false false a b c o k is never = absurd (never refl refl is)
 some_token : (o : Option ℕ) (bytes : List ℕ) (found : Kind × ℕ) → longest bytes ≡ Some found → token_or o bytes ≡ None → ⊥
 some_token (Some n) bytes found is none = cc
 some_token None bytes found is none =
-    let mapped = ap (option_map {U = What × ℕ} (λ (f : Kind × ℕ). (Word f.0, f.1))) is in cc
+    let mapped = ap (option_map {U = PieceKind × ℕ} (λ (f : Kind × ℕ). (Word f.0, f.1))) is in cc
 
-map_none : (o : Option ℕ) → option_map {U = What × ℕ} (λ n. (Comment, 2 + n)) o ≡ None → o ≡ None
+map_none : (o : Option ℕ) → option_map {U = PieceKind × ℕ} (λ n. (Comment, 2 + n)) o ≡ None → o ≡ None
 map_none None is = refl
 map_none (Some n) is = cc
 
@@ -182,7 +182,7 @@ open_here : (lines header : Bool) (cs : List Char) → is_some (first_byte cs) �
 open_here lines header [] some is = cc
 open_here lines header (c ∷ cs) some is = open_at lines header c.byte (bytes_of cs) is
 
-pub scans-err : (lines : Bool) (page : Page) (chars : List Char) (now : Page) (left : List Char) (next : Page) (behind : List Char) (fault : LexFault) →
+pub scans-err : (lines : Bool) (page : LinesSoFar) (chars : List Char) (now : LinesSoFar) (left : List Char) (next : LinesSoFar) (behind : List Char) (fault : LexFault) →
     Continues lines page chars now left → is_some (first_byte left) ≡ true → Steps lines now left next behind (Err fault) → Scans lines page chars next (Err fault)
 scans-err lines page chars now left next behind (NulByte line) so_far some step = step
 scans-err lines page chars now left next behind (OpenComment line) so_far some step =

@@ -8,14 +8,14 @@ use borrow.Author.Tests.{eqb-true}
 use Rattle.std.proofs.lemmas.Bool.Decides.{nat_tests}
 use lib.Chars.{codes}
 use Rattle.pp_tokens.specs.declared.line.Line.{Line}
-use Rattle.pp_tokens.specs.declared.piece.What.{What}
-use Rattle.pp_tokens.specs.declared.piece.What.TheVariants.{Blank, LineEnd, Comment, Word}
+use Rattle.pp_tokens.specs.declared.piece.PieceKind.{PieceKind}
+use Rattle.pp_tokens.specs.declared.piece.PieceKind.TheVariants.{Blank, LineEnd, Comment, Word}
 use Rattle.pp_tokens.specs.declared.token.Kind.{Kind}
 use Rattle.pp_tokens.specs.declared.token.Kind.TheVariants.{Identifier, Number, Char as Constant, Str, Punct, Header, LoneQuote, Other}
 use Rattle.pp_tokens.specs.declared.token.Token.{Token}
 use Rattle.pp_tokens.specs.Cleaning.{Char, bytes_of}
 use Rattle.pp_tokens.specs.Kinds.{begins, same, first_is, is_quote, is_blank, is_identifier, is_number, is_char, is_str, punctuators, is_punct, is_one, kind_of}
-use Rattle.pp_tokens.specs.Cut.{Page, Piece, no_page, put, put_all, with_token, ended, lines_of, chars_of, longest, longest_within, longer, up_to, header_name, token_or, line_rest, up_to_close, piece_at, header_may_stand, AreCut}
+use Rattle.pp_tokens.specs.Cut.{LinesSoFar, Piece, no_page, put, put_all, with_token, ended, lines_of, chars_of, longest, longest_within, longer, up_to, header_name, token_or, line_rest, up_to_close, piece_at, header_may_stand, AreCut}
 use Rattle.pp_tokens.specs.Tokens.{is_identifier_kind, is_punctuator_kind, is_quote_kind}
 use Rattle.pp_tokens.specs.Spelled.{KindIsSpelled, LineIsSpelled, FileIsSpelled, TextIsSpelled, OperatorsArePunctuators, NamesAreIdentifiers}
 use Rattle.pp_tokens.proofs.KindLemmas.{kind_by, kind_tests, clash, to_false}
@@ -184,16 +184,16 @@ header_agree (b ∷ bs) n is = header_by b bs n (eqb b 60) (eqb b 34) (up_to 62 
 
 -- a token in front
 
-kind_of_what : Kind → What → Kind
+kind_of_what : Kind → PieceKind → Kind
 kind_of_what d (Word k) = k
 kind_of_what d Blank = d
 kind_of_what d LineEnd = d
 kind_of_what d Comment = d
 
-what_of : Option (What × ℕ) → What
+what_of : Option (PieceKind × ℕ) → PieceKind
 what_of o = (unwrap_or o (LineEnd, 0)).0
 
-count_in : Option (What × ℕ) → ℕ
+count_in : Option (PieceKind × ℕ) → ℕ
 count_in o = (unwrap_or o (LineEnd, 0)).1
 
 longest_kind_by : (bytes : List ℕ) (m : ℕ) (o : Option Kind) (k : Kind) (n : ℕ) → kind_of (take (suc m) bytes) ≡ o → (longest_within bytes m ≡ Some (k, n) → kind_of (take n bytes) ≡ Some k) → longer o (suc m) (longest_within bytes m) ≡ Some (k, n) → kind_of (take n bytes) ≡ Some k
@@ -214,12 +214,12 @@ token_agree (Some m) bytes found k n there header is =
     let kind : Header ≡ k = ap (kind_of_what k) (ap what_of is) in
     let count : m ≡ n = ap count_in is in
     subst (λ j. Agree j (take n bytes)) kind (header_agree bytes n (header m refl ∙ ap Some count))
-token_agree None bytes None k n there header is = absurd (none _ (ap (option_map {U = What × ℕ} (λ (f : Kind × ℕ). (Word f.0, f.1))) there) is)
+token_agree None bytes None k n there header is = absurd (none _ (ap (option_map {U = PieceKind × ℕ} (λ (f : Kind × ℕ). (Word f.0, f.1))) there) is)
   where
-    none : (o : Option (What × ℕ)) → o ≡ None → o ≡ Some (Word k, n) → ⊥
+    none : (o : Option (PieceKind × ℕ)) → o ≡ None → o ≡ Some (Word k, n) → ⊥
     none o first second = cc
 token_agree None bytes (Some f) k n there header is =
-    let found : ◌≡◌ {A = Option (What × ℕ)} (Some (Word f.0, f.1)) (Some (Word k, n)) = sym (ap (option_map {U = What × ℕ} (λ (f : Kind × ℕ). (Word f.0, f.1))) there) ∙ is in
+    let found : ◌≡◌ {A = Option (PieceKind × ℕ)} (Some (Word f.0, f.1)) (Some (Word k, n)) = sym (ap (option_map {U = PieceKind × ℕ} (λ (f : Kind × ℕ). (Word f.0, f.1))) there) ∙ is in
     let kind : f.0 ≡ k = ap (kind_of_what k) (ap what_of found) in
     let count : f.1 ≡ n = ap count_in found in
     by_table k (take n bytes) (longest_kind bytes (length bytes) k n (there ∙ (λ i. Some (kind i, count i))))
@@ -228,8 +228,8 @@ where_allowed : (h : Bool) (o : Option ℕ) (m : ℕ) → cond h o None ≡ Some
 where_allowed true o m is = is
 where_allowed false o m is = cc
 
-front_by : (end : What) (m : ℕ) (o : Option ℕ) (t : Option (What × ℕ)) (k : Kind) (n : ℕ) (u v w x : Bool) → (end ≡ Word k → ⊥) →
-    cond u (Some (end, 1)) (cond v (Some (Blank, 1)) (cond w (Some (Comment, m)) (cond x (option_map {U = What × ℕ} (λ n. (Comment, 2 + n)) o) t))) ≡ Some (Word k, n) → t ≡ Some (Word k, n)
+front_by : (end : PieceKind) (m : ℕ) (o : Option ℕ) (t : Option (PieceKind × ℕ)) (k : Kind) (n : ℕ) (u v w x : Bool) → (end ≡ Word k → ⊥) →
+    cond u (Some (end, 1)) (cond v (Some (Blank, 1)) (cond w (Some (Comment, m)) (cond x (option_map {U = PieceKind × ℕ} (λ n. (Comment, 2 + n)) o) t))) ≡ Some (Word k, n) → t ≡ Some (Word k, n)
 unfolding what_of
 front_by end m o t k n true v w x no_end is = absurd (no_end (ap what_of is))
 front_by end m o t k n false true w x no_end is = let wrong : Blank ≡ Word k = ap what_of is in cc
@@ -261,7 +261,7 @@ lines_more : (ls : List Line) (l : Line) → AllByRecursion LineIsSpelled ls →
 lines_more [] l all one = (one, tt)
 lines_more (m ∷ ls) l all one = (all.0, lines_more ls l all.1 one)
 
-record Spelled (page : Page) : Type 0 where
+record Spelled (page : LinesSoFar) : Type 0 where
   tokens : AllByRecursion KindIsSpelled page.tokens
   lines : AllByRecursion LineIsSpelled page.lines
 
@@ -269,11 +269,11 @@ ended_spelled : (lines : List Line) (number : ℕ) (ts : List Token) → AllByRe
 ended_spelled lines number [] all none = all
 ended_spelled lines number (t ∷ ts) all some = lines_more lines (record { number = number; tokens = t ∷ ts }) all some
 
-word_spelled : (page : Page) (now : List Token) (k : Kind) (chars : List Char) → page.tokens ≡ now → Spelled page → Agree k (bytes_of chars) → Spelled (with_token page now k chars)
+word_spelled : (page : LinesSoFar) (now : List Token) (k : Kind) (chars : List Char) → page.tokens ≡ now → Spelled page → Agree k (bytes_of chars) → Spelled (with_token page now k chars)
 word_spelled page [] k chars is so_far agree = record { tokens = (spelled k chars false agree, tt); lines = so_far.lines }
 word_spelled page (t ∷ ts) k chars is so_far agree = record { tokens = all_more page.tokens _ so_far.tokens (spelled k chars page.space agree); lines = so_far.lines }
 
-put_spelled : (page : Page) (what : What) (chars : List Char) → Spelled page → ((k : Kind) → what ≡ Word k → Agree k (bytes_of chars)) → Spelled (put page what chars)
+put_spelled : (page : LinesSoFar) (what : PieceKind) (chars : List Char) → Spelled page → ((k : Kind) → what ≡ Word k → Agree k (bytes_of chars)) → Spelled (put page what chars)
 put_spelled page Blank chars so_far agree = record { tokens = so_far.tokens; lines = so_far.lines }
 put_spelled page Comment chars so_far agree = record { tokens = so_far.tokens; lines = so_far.lines }
 put_spelled page LineEnd chars so_far agree = record { tokens = tt; lines = ended_spelled page.lines page.number page.tokens so_far.lines so_far.tokens }
@@ -284,11 +284,11 @@ own_bytes : (chars rest : List Char) → take (length chars) (bytes_of (chars ++
 own_bytes chars rest =
     ap (take (length chars)) (map-append (λ (c : Char). c.byte) chars rest) ∙ take_at (bytes_of chars) (bytes_of rest) (length chars) (length-map {B = ℕ} chars (λ (c : Char). c.byte))
 
-piece_agree : (lines header : Bool) (what : What) (chars rest : List Char) → piece_at lines header (bytes_of (chars ++ rest)) ≡ Some (what, length chars) → (k : Kind) → what ≡ Word k → Agree k (bytes_of chars)
+piece_agree : (lines header : Bool) (what : PieceKind) (chars rest : List Char) → piece_at lines header (bytes_of (chars ++ rest)) ≡ Some (what, length chars) → (k : Kind) → what ≡ Word k → Agree k (bytes_of chars)
 piece_agree lines header what chars rest stands k is =
     subst (Agree k) (own_bytes chars rest) (front_agree lines header (bytes_of (chars ++ rest)) k (length chars) (stands ∙ ap (λ w. Some (w, length chars)) is))
 
-all_spelled : (lines : Bool) (page : Page) (ps : List Piece) (rest : List Char) → AreCut lines page ps rest → Spelled page → Spelled (put_all page ps)
+all_spelled : (lines : Bool) (page : LinesSoFar) (ps : List Piece) (rest : List Char) → AreCut lines page ps rest → Spelled page → Spelled (put_all page ps)
 all_spelled lines page [] rest cut so_far = so_far
 all_spelled lines page (p ∷ ps) rest cut so_far =
     let stands : piece_at lines (header_may_stand page.tokens) (bytes_of (p.chars ++ (chars_of ps ++ rest))) ≡ Some (p.what, length p.chars) =
@@ -307,7 +307,7 @@ file-spelled bytes lines (no_nul, page, (pieces, cut, final), are) =
 
 pub text-spelled : TextIsSpelled
 text-spelled bytes tokens (no_nul, page, (pieces, cut, final), are) =
-    subst (AllByRecursion KindIsSpelled) (sym (are ∙ ap (λ (p : Page). p.tokens) final)) (all_spelled false no_page pieces [] cut.each none_spelled).tokens
+    subst (AllByRecursion KindIsSpelled) (sym (are ∙ ap (λ (p : LinesSoFar). p.tokens) final)) (all_spelled false no_page pieces [] cut.each none_spelled).tokens
 
 operator_by : (a b c d : Bool) (x : Bool) → ((a || b) || (c || d)) ≡ true → (a ≡ true → x ≡ true) → (b ≡ true → x ≡ true) → (c ≡ true → x ≡ true) → (d ≡ true → x ≡ true) → x ≡ true
 operator_by true b c d x is one two three four = one refl

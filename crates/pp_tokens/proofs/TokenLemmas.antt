@@ -2,7 +2,7 @@
 use Rattle.std.proofs.Common.{◌≡◌, ℕ, suc, eqb, Bool, true, false, cond, ◌||◌, ◌&&◌, List, [], ◌∷◌, drop, Option, Some, None, refl, sym, ◌∙◌, ap, subst}
 use Rattle.std.specs.Option.{option_map}
 use borrow.Author.Tests.{eqb-true}
-use Rattle.pp_tokens.specs.declared.piece.What.TheVariants.{Word}
+use Rattle.pp_tokens.specs.declared.piece.PieceKind.TheVariants.{Word}
 use Rattle.pp_tokens.specs.declared.token.Kind.{Kind}
 use Rattle.pp_tokens.specs.declared.token.Kind.TheVariants.{Number}
 use Rattle.pp_tokens.specs.Cleaning.{Char, bytes_of}

@@ -5,7 +5,7 @@ use Rattle.pp_tokens.specs.declared.fault.LexFault.TheVariants.{NulByte, OpenCom
 use Rattle.pp_tokens.specs.Cleaning.{Char, bytes_of, on_line_one, first_nul}
 use Rattle.pp_tokens.specs.Kinds.{kind_of}
 use Rattle.pp_tokens.specs.Printing.{SameTokens, Prints}
-use Rattle.pp_tokens.specs.Cut.{Page, Piece, IsCut, IsOpen, header_may_stand, LexesFile, LexesText}
+use Rattle.pp_tokens.specs.Cut.{LinesSoFar, Piece, IsCut, IsOpen, header_may_stand, LexesFile, LexesText}
 use Rattle.std.specs.List.{AllByRecursion}
 use Rattle.pp_tokens.specs.declared.token.Kind.TheVariants.{LoneQuote}
 use Rattle.pp_tokens.specs.declared.line.Line.{Line}
@@ -13,10 +13,10 @@ use Rattle.pp_tokens.specs.declared.token.Token.{Token}
 
 -- two whole cuts of one text are the same
 abbrev pub CutIsUnique : Type 0
-CutIsUnique = (lines : Bool) (page : Page) (chars : List Char) (pieces others : List Piece) → IsCut lines page chars pieces [] → IsCut lines page chars others [] → pieces ≡ others
+CutIsUnique = (lines : Bool) (page : LinesSoFar) (chars : List Char) (pieces others : List Piece) → IsCut lines page chars pieces [] → IsCut lines page chars others [] → pieces ≡ others
 
 -- a cut of a text up to its end, or up to a comment that is not closed
-pub record Ends (lines : Bool) (page : Page) (chars : List Char) : Type 0 where
+pub record Ends (lines : Bool) (page : LinesSoFar) (chars : List Char) : Type 0 where
   pub pieces : List Piece
   pub rest : List Char
   pub cut : IsCut lines page chars pieces rest
@@ -24,7 +24,7 @@ pub record Ends (lines : Bool) (page : Page) (chars : List Char) : Type 0 where
 
 -- every text is cut up to its end, or up to a comment that is not closed
 abbrev pub CutExists : Type 0
-CutExists = (lines : Bool) (page : Page) (chars : List Char) → Ends lines page chars
+CutExists = (lines : Bool) (page : LinesSoFar) (chars : List Char) → Ends lines page chars
 
 -- an answer other than want of memory
 abbrev pub IsAnswer : {A : Type 0} → Result A LexFault → Type 0

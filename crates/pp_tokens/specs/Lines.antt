@@ -2,14 +2,14 @@
 use Rattle.std.specs.Prelude.{◌≡◌, ◌↔◌, ℕ, Bool, true, false, if◌then◌else◌, List, [], ◌∷◌, ◌++◌, length, None, Some, Ok}
 use Rattle.std.specs.List.{list_any, flat_map}
 use Rattle.pp_tokens.specs.declared.line.Line.{Line}
-use Rattle.pp_tokens.specs.declared.piece.What.{What}
-use Rattle.pp_tokens.specs.declared.piece.What.TheVariants.{Blank, LineEnd, Comment, Word}
+use Rattle.pp_tokens.specs.declared.piece.PieceKind.{PieceKind}
+use Rattle.pp_tokens.specs.declared.piece.PieceKind.TheVariants.{Blank, LineEnd, Comment, Word}
 use Rattle.pp_tokens.specs.declared.token.Token.{Token}
 use Rattle.pp_tokens.specs.Cleaning.{Char, bytes_of, numbered, cleaned, on_line_one, first_nul}
 use Rattle.pp_tokens.specs.Cut.{Piece, chars_of, no_page, line_of, piece_at, header_may_stand, IsOpen, LeavesOpen, LexesFile, LexesText}
 
 -- the end of a line
-abbrev pub is_end : What → Bool
+abbrev pub is_end : PieceKind → Bool
 is_end Blank = false
 is_end LineEnd = true
 is_end Comment = false
@@ -39,7 +39,7 @@ last_line [] = []
 last_line (p ∷ ps) = if has_end (p ∷ ps) then last_line ps else p ∷ ps
 
 -- a piece that is a token, with this mark, and the tokens after it; or the tokens after a piece that is none
-abbrev pub token_then : What → List Char → Bool → List Token → List Token → List Token
+abbrev pub token_then : PieceKind → List Char → Bool → List Token → List Token → List Token
 token_then Blank chars space after others = others
 token_then LineEnd chars space after others = others
 token_then Comment chars space after others = others
@@ -56,7 +56,7 @@ tokens_in [] = []
 tokens_in (p ∷ ps) = token_then p.what p.chars false (tokens_after false ps) (tokens_in ps)
 
 -- the line number of a piece that is a token, or the other number
-abbrev pub number_or : What → ℕ → ℕ → ℕ
+abbrev pub number_or : PieceKind → ℕ → ℕ → ℕ
 number_or Blank number other = other
 number_or LineEnd number other = other
 number_or Comment number other = other

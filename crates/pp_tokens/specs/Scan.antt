@@ -8,9 +8,9 @@ use Rattle.pp_tokens.specs.declared.token.Kind.TheVariants.{Identifier, Number, 
 use Rattle.pp_tokens.specs.declared.fault.LexFault.{LexFault}
 use Rattle.pp_tokens.specs.declared.fault.LexFault.TheVariants.{NulByte, OpenComment, NoMemory}
 use Rattle.pp_tokens.specs.Cleaning.{Char, bytes_of}
-use Rattle.pp_tokens.specs.declared.piece.What.{What}
-use Rattle.pp_tokens.specs.declared.piece.What.TheVariants.{Blank, LineEnd, Comment}
-use Rattle.pp_tokens.specs.Cut.{up_to, line_rest, up_to_close, token_at, piece_at, header_may_stand, line_of, Page, put, Makes, LeavesOpen}
+use Rattle.pp_tokens.specs.declared.piece.PieceKind.{PieceKind}
+use Rattle.pp_tokens.specs.declared.piece.PieceKind.TheVariants.{Blank, LineEnd, Comment}
+use Rattle.pp_tokens.specs.Cut.{up_to, line_rest, up_to_close, token_at, piece_at, header_may_stand, line_of, LinesSoFar, put, Makes, LeavesOpen}
 use Rattle.pp_tokens.specs.Kinds.{begins, is_blank, first_is, begins_number, is_letter, is_word, goes_on, is_quote}
 
 -- how many line feeds the bytes have
@@ -160,7 +160,7 @@ abbrev pub header_by : ℕ → List ℕ → Option ℕ
 header_by first behind = if first == 60 then option_map suc (up_to 62 behind) else (if first == 34 then option_map suc (up_to 34 behind) else None)
 
 -- the piece in front, by its first byte and the bytes after it
-abbrev pub piece_by : Bool → Bool → ℕ → List ℕ → List ℕ → Option (What × ℕ)
+abbrev pub piece_by : Bool → Bool → ℕ → List ℕ → List ℕ → Option (PieceKind × ℕ)
 piece_by lines header first bytes behind =
     if first == 10 then Some (if lines then LineEnd else Blank, 1)
     else (if is_blank first then Some (Blank, 1)
@@ -169,22 +169,22 @@ piece_by lines header first bytes behind =
     else token_at header bytes)))
 
 -- the piece in front is put on the page, and the bytes after it are left
-pub record Takes (lines : Bool) (page : Page) (chars : List Char) (new_page : Page) (left : List Char) : Type 0 where
-  pub what : What
+pub record Takes (lines : Bool) (page : LinesSoFar) (chars : List Char) (new_page : LinesSoFar) (left : List Char) : Type 0 where
+  pub what : PieceKind
   pub count : ℕ
   pub stands : piece_at lines (header_may_stand page.tokens) (bytes_of chars) ≡ Some (what, count)
   pub made : new_page ≡ put page what (take count chars)
   pub rest : left ≡ drop count chars
 
 -- what one step comes to
-abbrev pub Steps : Bool → Page → List Char → Page → List Char → Result (Unit {0}) LexFault → Type 0
+abbrev pub Steps : Bool → LinesSoFar → List Char → LinesSoFar → List Char → Result (Unit {0}) LexFault → Type 0
 Steps lines page chars new_page left (Ok done) = Takes lines page chars new_page left
 Steps lines page chars new_page left (Err (NulByte line)) = ⊥
 Steps lines page chars new_page left (Err (OpenComment line)) = (piece_at lines (header_may_stand page.tokens) (bytes_of chars) ≡ None) × (line ≡ line_of chars)
 Steps lines page chars new_page left (Err NoMemory) = Unit {0}
 
 -- what all steps come to
-abbrev pub Scans : Bool → Page → List Char → Page → Result (Unit {0}) LexFault → Type 0
+abbrev pub Scans : Bool → LinesSoFar → List Char → LinesSoFar → Result (Unit {0}) LexFault → Type 0
 Scans lines page chars new_page (Ok done) = Makes lines page chars new_page
 Scans lines page chars new_page (Err (NulByte line)) = ⊥
 Scans lines page chars new_page (Err (OpenComment line)) = LeavesOpen lines page chars line

@@ -3,14 +3,14 @@ ghost use Rattle.pp_tokens.specs.Cleaning.{bytes_of};
 ghost use Rattle.std.specs.Option.{option_map};
 ghost use Rattle.pp_tokens.specs.Cut.{piece_at, token_at, up_to_close};
 ghost use Rattle.pp_tokens.specs.Kinds.{begins, is_blank};
-ghost use Rattle.pp_tokens.specs.declared.piece.What.TheVariants.{Comment};
+ghost use Rattle.pp_tokens.specs.declared.piece.PieceKind.TheVariants.{Comment};
 ghost use Rattle.pp_tokens.specs.Kinds.{begins_number};
 ghost use Rattle.pp_tokens.specs.Scan.{first_byte, closing, IsKnown, quoted_length, quoted_kind, is_prefix_letter, is_prefix, prefixed_length, word_token, quote_or, punct_or, punctuator_length, scanned, header_by};
 
 use crate::chars::Chars;
 use crate::classes::{is_blank, is_digit, is_letter, is_quote};
 use crate::measures::{closing, line_rest, number_rest, up_to, up_to_close, word_length};
-use crate::piece::What;
+use crate::piece::PieceKind;
 use crate::punctuators::punctuator_length;
 use crate::quote_scan::QuoteScan;
 use crate::token::Kind;
@@ -184,7 +184,7 @@ fn token_piece(
     first: u8,
     chars: &Chars<'_>,
     quotes: QuoteScan,
-) -> Option<(What, usize)>
+) -> Option<(PieceKind, usize)>
     requires known { IsKnown quotes.single quotes.double (bytes_of chars.now) }
     requires first { Some first ≡ first_byte chars.now }
     requires not_line_feed { (first == 10) ≡ false }
@@ -194,10 +194,10 @@ fn token_piece(
     let mut behind = chars.fork();
     behind.advance();
     match allowed_header(header, first, &behind) {
-        Some(length) => Some((What::Word(Kind::Header), length)),
+        Some(length) => Some((PieceKind::Word(Kind::Header), length)),
         None => {
             let (kind, length) = token(first, chars, quotes);
-            Some((What::Word(kind), length))
+            Some((PieceKind::Word(kind), length))
         }
     }
 }
@@ -213,13 +213,13 @@ fn is_comment(first: u8, behind: &Chars<'_>, second: u8) -> bool
 }
 
 /// The comment whose `/*` is in front, where it is closed.
-fn block_comment(star: &Chars<'_>) -> Option<(What, usize)>
+fn block_comment(star: &Chars<'_>) -> Option<(PieceKind, usize)>
     ensures { result ≡ option_map (λ n. (Comment, 2 + n)) (up_to_close (drop 1 (bytes_of star.now))) }
 {
     let mut inside = star.fork();
     inside.advance();
     match up_to_close(&inside) {
-        Some(length) => Some((What::Comment, length + 2)),
+        Some(length) => Some((PieceKind::Comment, length + 2)),
         None => None,
     }
 }
@@ -230,7 +230,7 @@ pub fn piece(
     header: bool,
     chars: &Chars<'_>,
     quotes: QuoteScan,
-) -> Option<(What, usize)>
+) -> Option<(PieceKind, usize)>
     requires { IsKnown quotes.single quotes.double (bytes_of chars.now) }
     ensures { result ≡ piece_at lines header (bytes_of chars.now) }
 {
@@ -238,15 +238,15 @@ pub fn piece(
         return None;
     };
     if first == b'\n' {
-        return Some((if lines { What::LineEnd } else { What::Blank }, 1));
+        return Some((if lines { PieceKind::LineEnd } else { PieceKind::Blank }, 1));
     }
     if is_blank(first) {
-        return Some((What::Blank, 1));
+        return Some((PieceKind::Blank, 1));
     }
     let mut behind = chars.fork();
     behind.advance();
     if is_comment(first, &behind, b'/') {
-        return Some((What::Comment, line_rest(&behind) + 1));
+        return Some((PieceKind::Comment, line_rest(&behind) + 1));
     }
     if is_comment(first, &behind, b'*') {
         return block_comment(&behind);

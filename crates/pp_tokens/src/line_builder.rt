@@ -1,7 +1,7 @@
 ghost use Rattle.std.specs.Prelude.{◌≡◌, List, [], ◌∷◌, IfOk, OnOk};
 ghost use Rattle.pp_tokens.specs.Cleaning.{Char, bytes_of};
 ghost use Rattle.pp_tokens.specs.Cut.{no_page, lines_of, header_may_stand, line_of, put};
-ghost use Rattle.pp_tokens.specs.declared.piece.What.TheVariants.{Blank, LineEnd, Word};
+ghost use Rattle.pp_tokens.specs.declared.piece.PieceKind.TheVariants.{Blank, LineEnd, Word};
 
 use crate::line::{Line, Lines};
 use crate::token::{Kind, Token, Tokens};
@@ -20,9 +20,9 @@ pub struct LineBuilder {
 }
 
 impl Model for LineBuilder {
-    ghost use Rattle.pp_tokens.specs.Cut.{Page};
+    ghost use Rattle.pp_tokens.specs.Cut.{LinesSoFar};
 
-    ghost Value = { Page };
+    ghost Value = { LinesSoFar };
 
     ghost view = { λ p. record { lines = p.lines; number = p.number; tokens = p.tokens; space = p.space } };
 }

@@ -2,7 +2,7 @@ use crate::token::Kind;
 
 /// What the text is cut into (C17 5.1.1.2 phase 3).
 #[derive(Clone, Copy, Debug, PartialEq, Eq)]
-pub enum What {
+pub enum PieceKind {
     /// One byte of white space.
     Blank,
     /// The line feed that ends a line of tokens.

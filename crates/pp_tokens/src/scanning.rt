@@ -7,7 +7,7 @@ use crate::chars::Chars;
 use crate::fault::LexFault;
 use crate::front::piece;
 use crate::line_builder::LineBuilder;
-use crate::piece::What;
+use crate::piece::PieceKind;
 use crate::quote_scan::QuoteScan;
 use crate::token::Kind;
 use mac_base::{Bytes, NoMemory};
@@ -45,7 +45,7 @@ fn take_text(alloc: Global, count: usize, chars: &mut Chars<'_>) -> Result<Bytes
 /// Puts the piece in front, of this length, on the page.
 fn put_piece(
     alloc: Global,
-    what: What,
+    what: PieceKind,
     count: usize,
     chars: &mut Chars<'_>,
     builder: &mut LineBuilder,
@@ -56,15 +56,15 @@ fn put_piece(
     ensures left { OnOk result (chars.new ≡ drop count chars.old) }
 {
     match what {
-        What::Blank | What::Comment => {
+        PieceKind::Blank | PieceKind::Comment => {
             builder.blank();
             chars.skip(count);
         }
-        What::LineEnd => {
+        PieceKind::LineEnd => {
             builder.end_line(alloc)?;
             chars.skip(count);
         }
-        What::Word(kind) => {
+        PieceKind::Word(kind) => {
             let line = chars.line();
             let text = take_text(alloc, count, chars)?;
             builder.word(kind, text, line)?;
@@ -101,12 +101,12 @@ fn step(
 }
 
 /// What is known of the quotes after a piece that began with this byte.
-fn known_after(quotes: QuoteScan, first: Option<u8>, what: What, chars: &Chars<'_>) -> QuoteScan
+fn known_after(quotes: QuoteScan, first: Option<u8>, what: PieceKind, chars: &Chars<'_>) -> QuoteScan
     requires { IsKnown quotes.single quotes.double (bytes_of chars.now) }
     ensures { IsKnown result.single result.double (bytes_of chars.now) }
 {
     match (what, first) {
-        (What::Word(Kind::LoneQuote), Some(quote)) => quotes.learned(quote, chars),
+        (PieceKind::Word(Kind::LoneQuote), Some(quote)) => quotes.learned(quote, chars),
         _ => quotes,
     }
 }

@@ -1,28 +1,28 @@
 -- Each file has lines, or a fault of its tokens.
 use Rattle.std.proofs.Common.{◌≡◌, ◌⊎◌, inl, inr, ℕ, zero, suc, ◌≤◌, true, List, [], ◌∷◌, length, take, drop, Option, None, Some, Result, Ok, Err, refl, arith}
 use Rattle.pp_tokens.specs.declared.line.Line.{Line}
-use Rattle.pp_tokens.specs.declared.piece.What.{What}
+use Rattle.pp_tokens.specs.declared.piece.PieceKind.{PieceKind}
 use Rattle.pp_tokens.specs.declared.fault.LexFault.{LexFault}
 use Rattle.pp_tokens.specs.declared.fault.LexFault.TheVariants.{NulByte, OpenComment}
 use Rattle.pp_tokens.specs.Cleaning.{Char, bytes_of, numbered, cleaned, first_nul}
-use Rattle.pp_tokens.specs.Cut.{Page, no_page, put, piece_at, header_may_stand, line_of, lines_of, Makes, LeavesOpen, LexesFile}
+use Rattle.pp_tokens.specs.Cut.{LinesSoFar, no_page, put, piece_at, header_may_stand, line_of, lines_of, Makes, LeavesOpen, LexesFile}
 use Rattle.pp_tokens.specs.Scan.{Takes}
 use Rattle.pp_tokens.specs.Laws.{IsAnswer}
 use Rattle.pp_tokens.proofs.ScanLemmas.{Continues, continues-none, continues-more, makes-itself, takes-smaller, scans-err}
 
 -- the rest of a text is cut to its end, or up to a comment that is not closed
-abbrev IsCutOrOpen : Page → List Char → Type 0
-IsCutOrOpen page chars = ((final : Page) × Makes true page chars final) ⊎ ((line : ℕ) × LeavesOpen true page chars line)
+abbrev IsCutOrOpen : LinesSoFar → List Char → Type 0
+IsCutOrOpen page chars = ((final : LinesSoFar) × Makes true page chars final) ⊎ ((line : ℕ) × LeavesOpen true page chars line)
 
 -- the same of a text of at most so many bytes
 abbrev CutWithin : ℕ → Type 0
-CutWithin n = (page : Page) (chars : List Char) → length chars ≤ n → IsCutOrOpen page chars
+CutWithin n = (page : LinesSoFar) (chars : List Char) → length chars ≤ n → IsCutOrOpen page chars
 
-carried_on : (page : Page) (chars : List Char) (now : Page) (left : List Char) → Continues true page chars now left → IsCutOrOpen now left → IsCutOrOpen page chars
+carried_on : (page : LinesSoFar) (chars : List Char) (now : LinesSoFar) (left : List Char) → Continues true page chars now left → IsCutOrOpen now left → IsCutOrOpen page chars
 carried_on page chars now left goes (inl (final, makes)) = inl (final, goes.makes final makes)
 carried_on page chars now left goes (inr (line, opens)) = inr (line, goes.opens line opens)
 
-cut_by : (n : ℕ) → CutWithin n → (page : Page) (c : Char) (cs : List Char) → length (c ∷ cs) ≤ suc n → (piece : Option (What × ℕ)) →
+cut_by : (n : ℕ) → CutWithin n → (page : LinesSoFar) (c : Char) (cs : List Char) → length (c ∷ cs) ≤ suc n → (piece : Option (PieceKind × ℕ)) →
     piece_at true (header_may_stand page.tokens) (bytes_of (c ∷ cs)) ≡ piece → IsCutOrOpen page (c ∷ cs)
 cut_by n rest page c cs enough None stands =
     inr (line_of (c ∷ cs), scans-err true page (c ∷ cs) page (c ∷ cs) page (c ∷ cs) (OpenComment (line_of (c ∷ cs))) (continues-none true page (c ∷ cs)) refl (stands, refl))

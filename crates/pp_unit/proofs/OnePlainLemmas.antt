@@ -16,7 +16,7 @@ use Rattle.macro_expand.specs.Marked.{Names, Marked, fresh, is_hash, is_paste, o
 use Rattle.macro_expand.specs.Calls.{Waiting, paste_follows}
 use Rattle.macro_expand.specs.Heads.{Head, Finished, Stays, Fails, Replaced, Call}
 use Rattle.macro_expand.specs.Expansion.{Answer, after, tokens_of}
-use Rattle.macro_expand.specs.Substituted.{Argument, Piece, Word, Gap, Joins, spelled, is_str, string_of, front, word_of, with_else, find_argument, token_put, put_in, joined_as, joined, join, is_joins, pasted_on, pasted, substituted}
+use Rattle.macro_expand.specs.Substituted.{Argument, Piece, Word, Placemarker, Joins, spelled, is_str, string_of, front, word_of, with_else, find_argument, token_put, put_in, joined_as, joined, join, is_joins, pasted_on, pasted, substituted}
 use Rattle.macro_expand.specs.Rules.{HasHead, Empty, Kept, Line, File, Unknown, Bad, Object, Uncalled, Open, Count, Called, Expands, Ends, Keeps, Refuses, Puts, Replaces, ArgumentFails, ListFails, TooMuch, Rescans, Arguments, NoMore, Fault, LaterFault, Next, Lone, Scanned, ExpandsTo}
 use Rattle.pp_directives.specs.declared.fault.ExprFault.{ExprFault}
 use Rattle.pp_directives.specs.declared.fault.ExprFault.TheVariants.{Syntax, NoMemory as ExprRanOut}
@@ -88,13 +88,13 @@ plain_joined a b = plain_as (one_kind (a.token.text ++ b.token.text)) a b
 plain_join : (p q : Piece) → PlainList (join p q)
 plain_join (Word a) (Word b) = plain_joined a b
 plain_join (Word a) (Joins t) = plain_joined a (fresh t)
-plain_join (Word a) (Gap space) = tt
-plain_join (Gap space) (Word b) = tt
-plain_join (Gap space) (Joins t) = tt
-plain_join (Gap space) (Gap other) = tt
+plain_join (Word a) (Placemarker space) = tt
+plain_join (Placemarker space) (Word b) = tt
+plain_join (Placemarker space) (Joins t) = tt
+plain_join (Placemarker space) (Placemarker other) = tt
 plain_join (Joins t) (Word b) = plain_joined (fresh t) b
 plain_join (Joins t) (Joins u) = plain_joined (fresh t) (fresh u)
-plain_join (Joins t) (Gap space) = tt
+plain_join (Joins t) (Placemarker space) = tt
 
 plain_pasted_on : (ps : List Piece) (p : Piece) → PlainList (pasted_on p ps)
 unfolding pasted_on
