@@ -3,14 +3,14 @@ use Rattle.std.proofs.Common.{◌≡◌, ◌⊎◌, inl, inr, Bool, true, List, 
 use Rattle.pp_tokens.specs.declared.token.Token.{Token}
 use Rattle.pp_directives.specs.declared.fault.ExprFault.{ExprFault}
 use Rattle.pp_directives.specs.declared.fault.ExprFault.TheVariants.{Syntax, NoMemory as RanOut}
-use Rattle.pp_directives.specs.declared.meaning.Meaning.{Meaning}
-use Rattle.pp_directives.specs.declared.symbol.Symbol.{Symbol}
+use Rattle.pp_directives.specs.declared.expression.typed_value.TypedValue.{TypedValue}
+use Rattle.pp_directives.specs.declared.expression.symbol.Symbol.{Symbol}
 use Rattle.pp_directives.specs.Expressions.{Tree, Leaf, Unary, Binary, Choice, IsExpr}
 use Rattle.pp_directives.specs.Values.{value_of, holds, condition_symbols, IsCondition, Refused, Unspelled, Spelled}
 use Rattle.pp_directives.specs.Numbers.{Computed}
 use Rattle.pp_directives.specs.ValueLaws.{is_token_fault, is_value_fault, SpellNothing}
-use Rattle.pp_directives.specs.Meanings.{meaning_of, with_prefix, with_infix, with_choice}
-use Rattle.pp_directives.specs.Frames.{made_of, meanings, trees, spelled_by}
+use Rattle.pp_directives.specs.TypedValues.{meaning_of, with_prefix, with_infix, with_choice}
+use Rattle.pp_directives.specs.OperandContexts.{made_of, meanings, trees, spelled_by}
 use Rattle.pp_directives.proofs.SymbolLemmas.{token_fault}
 use Rattle.pp_directives.proofs.TypeLemmas.{value_fault}
 use Rattle.pp_directives.proofs.Complete.{complete}
@@ -46,7 +46,7 @@ means list t d = complete meanings d ∙ ap Some (made_of-meanings t)
 refuted : (list : List Symbol) (t : Tree) → spelled_by meanings list ≡ None → IsExpr 1 list t → ⊥
 refuted list t none d = let some = means list t d in cc
 
-found_at : (list : List Symbol) (o : Option Meaning) (m : Meaning) → o ≡ Some m → Found meanings list o → Has meanings 1 list m
+found_at : (list : List Symbol) (o : Option TypedValue) (m : TypedValue) → o ≡ Some m → Found meanings list o → Has meanings 1 list m
 found_at list o m e h = subst (Found meanings list) e h
 
 -- where nothing is read there is no tree
@@ -54,14 +54,14 @@ pub answer_unspelled : (tokens : List Token) (list : List Symbol) → condition_
 answer_unspelled tokens list e none = Unspelled e (λ t d. refuted list t none d)
 
 -- where something is read its value is that of a tree
-pub answer_spelled : (tokens : List Token) (list : List Symbol) (m : Meaning) → condition_symbols tokens ≡ Ok list → spelled_by meanings list ≡ Some m → IsCondition tokens (holds m.value)
+pub answer_spelled : (tokens : List Token) (list : List Symbol) (m : TypedValue) → condition_symbols tokens ≡ Ok list → spelled_by meanings list ≡ Some m → IsCondition tokens (holds m.value)
 answer_spelled tokens list m e some =
     let has = found_at list (spelled_by meanings list) m some (sound meanings list) in
     let is = sym (made_of-meanings has.tree) ∙ has.makes in
-    subst (λ (n : Meaning). IsCondition tokens (holds n.value)) is (Spelled e has.spells)
+    subst (λ (n : TypedValue). IsCondition tokens (holds n.value)) is (Spelled e has.spells)
 
 -- the answer by what is read
-abbrev answer_read : Option Meaning → Result Bool ExprFault
+abbrev answer_read : Option TypedValue → Result Bool ExprFault
 answer_read None = Err Syntax
 answer_read (Some m) = holds m.value
 
@@ -70,7 +70,7 @@ abbrev answer_by : Result (List Symbol) ExprFault → Result Bool ExprFault
 answer_by (Err fault) = Err fault
 answer_by (Ok list) = answer_read (spelled_by meanings list)
 
-nothing_read : (list : List Symbol) (o : Option Meaning) → Found meanings list o → ((t : Tree) → IsExpr 1 list t → ⊥) → o ≡ None
+nothing_read : (list : List Symbol) (o : Option TypedValue) → Found meanings list o → ((t : Tree) → IsExpr 1 list t → ⊥) → o ≡ None
 nothing_read list None h no_tree = refl
 nothing_read list (Some m) h no_tree = absurd (no_tree h.tree h.spells)
 
@@ -83,7 +83,7 @@ answer_is tokens _ (Spelled {list} {t} e d) = sym (ap answer_by e ∙ ap answer_
 pub one_answer : (tokens : List Token) (answer other : Result Bool ExprFault) → IsCondition tokens answer → IsCondition tokens other → answer ≡ other
 one_answer tokens answer other p q = answer_is tokens answer p ∙ sym (answer_is tokens other q)
 
-an_answer_read : (tokens : List Token) (list : List Symbol) (o : Option Meaning) → condition_symbols tokens ≡ Ok list → spelled_by meanings list ≡ o → IsCondition tokens (answer_read o)
+an_answer_read : (tokens : List Token) (list : List Symbol) (o : Option TypedValue) → condition_symbols tokens ≡ Ok list → spelled_by meanings list ≡ o → IsCondition tokens (answer_read o)
 an_answer_read tokens list None e r = answer_unspelled tokens list e r
 an_answer_read tokens list (Some m) e r = answer_spelled tokens list m e r
 

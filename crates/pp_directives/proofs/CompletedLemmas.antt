@@ -3,7 +3,7 @@ use Rattle.std.proofs.Common.{◌≡◌, ◌↔◌, ℕ, zero, suc, List, [], �
 use Rattle.std.proofs.lemmas.List.{append-nil, map-append}
 use Rattle.mac_base.proofs.Choices.{same_ok}
 use Rattle.pp_directives.specs.declared.fault.StructFault.{StructFault}
-use Rattle.pp_directives.specs.declared.open.Open.{Open}
+use Rattle.pp_directives.specs.declared.conditional.open_section.OpenSection.{OpenSection}
 use Rattle.pp_directives.specs.Groups.{EndifLine, CondLine, line, Group, lines_of, Parses, HasTree, carried, endifs, Spot, added}
 use Rattle.pp_directives.specs.Conditions.{turned_all}
 use Rattle.pp_directives.specs.Following.{Ways, Then, Follows, spot_of}
@@ -46,11 +46,11 @@ completed view lines ending n =
 
 module _ {A S F : Type 0} (ways : Ways A S F) where
   -- the end where this fault is answered
-  abbrev pub Answered : StructFault → ℕ → List Open → S → Result S F → Type 0
+  abbrev pub Answered : StructFault → ℕ → List OpenSection → S → Result S F → Type 0
   Answered fault number p t r = r ≡ Err (ways.breaks fault number)
 
   -- added lines change what no one sees
-  added_into : (fault : StructFault) (number : ℕ) (ending : A) (n : ℕ) (p : List Open) (s : S) → length p ≡ n →
+  added_into : (fault : StructFault) (number : ℕ) (ending : A) (n : ℕ) (p : List OpenSection) (s : S) → length p ≡ n →
       Same (Into ways (Answered fault number) p (endifs ending n) s) (Answered fault number p s)
   added_into fault number ending zero p s is = same_self (Answered fault number p s)
   added_into fault number ending (suc n) [] s is = cc
@@ -58,17 +58,17 @@ module _ {A S F : Type 0} (ways : Ways A S F) where
       endif_turns ways (Answered fault number) ending o p (endifs ending n) s ⨾ added_into fault number ending n p (ways.passes ending s) (cc is)
 
   -- so many sections are pending as lines were added
-  completed_length : (lines : List (CondLine A)) (ending : A) (n : ℕ) (q : List Open) → turned_all [] (carried (spot_of ways) lines) ≡ Ok q → HasTree (lines ++ endifs ending n) → length q ≡ n
+  completed_length : (lines : List (CondLine A)) (ending : A) (n : ℕ) (q : List OpenSection) → turned_all [] (carried (spot_of ways) lines) ≡ Ok q → HasTree (lines ++ endifs ending n) → length q ≡ n
   completed_length lines ending n q turns tree =
       let d = tree_depth (carried (spot_of ways) lines) n ((completed (spot_of ways) lines ending n).0 tree) in
       ap length (same_ok {E = StructFault} q d.pending (sym turns ∙ d.turns)) ∙ d.depth
 
-  pub completes : (lines : List (CondLine A)) (ending : A) (q : List Open) → turned_all [] (carried (spot_of ways) lines) ≡ Ok q → HasTree (lines ++ endifs ending (length q))
+  pub completes : (lines : List (CondLine A)) (ending : A) (q : List OpenSection) → turned_all [] (carried (spot_of ways) lines) ≡ Ok q → HasTree (lines ++ endifs ending (length q))
   completes lines ending q turns =
       (completed (spot_of ways) lines ending (length q)).1 (depth_tree (carried (spot_of ways) lines) (length q) (record { pending = q; turns = turns; depth = refl }))
 
-  -- to follow the completed lines is to run them, where the fault is answered behind both
-  pub completed_same : (lines : List (CondLine A)) (ending : A) (n : ℕ) (tree : Group A) (q : List Open) (s : S) (fault : StructFault) (number : ℕ) →
+  -- to follow the completed lines is to run them, where the fault is answered after both
+  pub completed_same : (lines : List (CondLine A)) (ending : A) (n : ℕ) (tree : Group A) (q : List OpenSection) (s : S) (fault : StructFault) (number : ℕ) →
       turned_all [] (carried (spot_of ways) lines) ≡ Ok q → Parses (lines ++ endifs ending n) tree →
       Same (Then (Follows ways tree s) (λ t r. r ≡ Err (ways.breaks fault number))) (Into ways (Answered fault number) [] lines s)
   completed_same lines ending n tree q s fault number turns is =

@@ -3,7 +3,7 @@ use Rattle.std.proofs.Common.{◌≡◌, ℕ, Bool, true, false, [], ◌∷◌, 
 use Rattle.pp_directives.specs.declared.fault.StructFault.TheVariants.{StrayElse, ElifAfterElse, OpenIf}
 use Rattle.pp_directives.specs.Groups.{OtherLine, IfLine, ElifLine, ElseLine, EndifLine, line, Group, Empty, Other, Section, Elif, Else, Endif, lines_of, Spot}
 use Rattle.pp_directives.specs.Reached.{reached}
-use Rattle.pp_directives.specs.Conditions.{fault_behind}
+use Rattle.pp_directives.specs.Conditions.{fault_after}
 
 -- the line of this number, with an answer
 abbrev at : ℕ → Bool → Spot
@@ -30,14 +30,14 @@ else_taken : reached (file false false) ≡ line IfLine (at 1 false) ∷ line El
 else_taken = refl
 
 -- its lines end in no fault
-no_fault : fault_behind [] (lines_of (file false true)) ≡ None
+no_fault : fault_after [] (lines_of (file false true)) ≡ None
 no_fault = refl
 
-stray : fault_behind [] (line ElseLine (at 1 false) ∷ []) ≡ Some (1, StrayElse)
+stray : fault_after [] (line ElseLine (at 1 false) ∷ []) ≡ Some (1, StrayElse)
 stray = refl
 
-after_else : fault_behind [] (line IfLine (at 1 true) ∷ line ElseLine (at 2 false) ∷ line ElifLine (at 3 true) ∷ []) ≡ Some (3, ElifAfterElse)
+after_else : fault_after [] (line IfLine (at 1 true) ∷ line ElseLine (at 2 false) ∷ line ElifLine (at 3 true) ∷ []) ≡ Some (3, ElifAfterElse)
 after_else = refl
 
-unclosed : fault_behind [] (line IfLine (at 1 true) ∷ line IfLine (at 2 false) ∷ line EndifLine (at 3 true) ∷ line ElseLine (at 4 false) ∷ []) ≡ Some (1, OpenIf)
+unclosed : fault_after [] (line IfLine (at 1 true) ∷ line IfLine (at 2 false) ∷ line EndifLine (at 3 true) ∷ line ElseLine (at 4 false) ∷ []) ≡ Some (1, OpenIf)
 unclosed = refl

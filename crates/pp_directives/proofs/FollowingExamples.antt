@@ -53,7 +53,7 @@ none_asked =
 fails : FollowsFile ways (line OtherLine (good 1) ∷ line IfLine (bad 2) ∷ line EndifLine (good 3) ∷ []) [] (Err (record { kind = None; number = 2 }))
 fails = Whole (Other (good 1) (Section (bad 2) Empty (Endif (good 3)) Empty)) refl (Goes {s = 1 ∷ []} refl (Stops (Stops refl)))
 
--- the fault of the structure comes behind the lines before it
+-- the fault of the structure comes after the lines before it
 second_else : FollowsFile ways (line IfLine (refuted 1) ∷ line ElseLine (good 2) ∷ line OtherLine (good 3) ∷ line ElseLine (good 4) ∷ []) [] (Err (record { kind = Some ElseAfterElse; number = 4 }))
 second_else =
     let lines = line IfLine (refuted 1) ∷ line ElseLine (good 2) ∷ line OtherLine (good 3) ∷ line ElseLine (good 4) ∷ [] in

@@ -3,10 +3,10 @@ use Rattle.std.proofs.Common.{◌≡◌, ℕ, ◌↔◌, false, List, [], ◌∷
 use Rattle.std.proofs.lemmas.List.{append-nil, reverse-append, reverse-reverse}
 use Rattle.mac_base.proofs.Choices.{same_ok, same_some}
 use Rattle.pp_directives.specs.declared.fault.StructFault.{StructFault}
-use Rattle.pp_directives.specs.declared.open.Open.{Open}
+use Rattle.pp_directives.specs.declared.conditional.open_section.OpenSection.{OpenSection}
 use Rattle.pp_directives.specs.Groups.{IfLine, ElifLine, ElseLine, EndifLine, Spot, CondLine, line, Tail, Elif, Else, Endif, lines_of, tail_lines, IsSection, endifs, added}
 use Rattle.pp_directives.specs.Structure.{IsInnermost, IsOpenAtEnd}
-use Rattle.pp_directives.specs.Conditions.{is_active, open_line, opened, behind_elif, behind_else, turned_all}
+use Rattle.pp_directives.specs.Conditions.{is_active, open_line, opened, after_elif, after_else, turned_all}
 use Rattle.pp_directives.specs.Laws.{EndsOpen}
 use Rattle.pp_directives.proofs.RunLemmas.{run_group, elif_step, else_step}
 use Rattle.pp_directives.proofs.StackLemmas.{stacked, innermost}
@@ -36,24 +36,24 @@ same_front a b x y is =
     sym (reverse-reverse a) ∙ ap reverse f ∙ reverse-reverse b
 
 -- where the `#endif` lacks, the section is pending that was so before
-record StillPending (o : Open) (s : List Open) (lines : List (CondLine Spot)) : Type 0 where
-  now : Open
+record StillPending (o : OpenSection) (s : List OpenSection) (lines : List (CondLine Spot)) : Type 0 where
+  now : OpenSection
   turns : turned_all (o ∷ s) lines ≡ Ok (now ∷ s)
   same : now.line ≡ o.line
 
-front_run : (t : Tail Spot) (o : Open) (s : List Open) → o.has_else ≡ false → StillPending o s (tail_front t)
+front_run : (t : Tail Spot) (o : OpenSection) (s : List OpenSection) → o.has_else ≡ false → StillPending o s (tail_front t)
 front_run (Elif spot group tail) o s h =
-    let more = front_run tail (behind_elif spot.answer o) s h in
-    record { now = more.now; turns = elif_step o s spot (lines_of group ++ tail_front tail) h ∙ run_group group (behind_elif spot.answer o ∷ s) (tail_front tail) ∙ more.turns; same = more.same }
+    let more = front_run tail (after_elif spot.answer o) s h in
+    record { now = more.now; turns = elif_step o s spot (lines_of group ++ tail_front tail) h ∙ run_group group (after_elif spot.answer o ∷ s) (tail_front tail) ∙ more.turns; same = more.same }
 front_run (Else spot group ending) o s h = record {
-  now = behind_else o;
-  turns = else_step o s spot (lines_of group) h ∙ ap (turned_all (behind_else o ∷ s)) (sym (append-nil (lines_of group))) ∙ run_group group (behind_else o ∷ s) [];
+  now = after_else o;
+  turns = else_step o s spot (lines_of group) h ∙ ap (turned_all (after_else o ∷ s)) (sym (append-nil (lines_of group))) ∙ run_group group (after_else o ∷ s) [];
   same = refl;
 }
 front_run (Endif ending) o s h = record { now = o; turns = refl; same = refl }
 
 -- the lines in a section that only its `#endif` lacks
-inside_run : (opening : Spot) (inside : List (CondLine Spot)) → IsSection (line IfLine opening ∷ inside ++ endifs added 1) → (o : Open) (s : List Open) → o.has_else ≡ false → StillPending o s inside
+inside_run : (opening : Spot) (inside : List (CondLine Spot)) → IsSection (line IfLine opening ∷ inside ++ endifs added 1) → (o : OpenSection) (s : List OpenSection) → o.has_else ≡ false → StillPending o s inside
 inside_run opening inside (other, group, tail, is) o s h =
     let e : (lines_of group ++ tail_lines tail) ++ [] ≡ inside ++ endifs added 1 = cc is in
     let f : (lines_of group ++ tail_front tail) ++ tail_end tail ∷ [] ≡ inside ++ endifs added 1 =
@@ -72,7 +72,7 @@ ends_open lines number at =
     let same : q.now ∷ p.0 ≡ t.0 = same_ok {E = StructFault} (q.now ∷ p.0) t.0 (sym q.turns ∙ p.2) in
     record { pending = t.0; turns = t.1; line = ap open_line (sym same) ∙ ap (λ x. Some x) (q.same ∙ sym i.named) }
 
-pub open_at_end : (lines : List (CondLine Spot)) (number : ℕ) (pending : List Open) → turned_all [] lines ≡ Ok pending → open_line pending ≡ Some number → IsOpenAtEnd lines number
+pub open_at_end : (lines : List (CondLine Spot)) (number : ℕ) (pending : List OpenSection) → turned_all [] lines ≡ Ok pending → open_line pending ≡ Some number → IsOpenAtEnd lines number
 open_at_end lines number [] is at = cc
 open_at_end lines number (o ∷ s) is at =
     record {

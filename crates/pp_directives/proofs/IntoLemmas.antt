@@ -2,70 +2,70 @@
 use Rattle.std.proofs.Common.{◌≡◌, Bool, true, false, cond, List, [], ◌∷◌, ◌++◌, Result, Ok, Err, refl, sym, subst}
 use Rattle.pp_directives.specs.declared.fault.StructFault.{StructFault}
 use Rattle.pp_directives.specs.declared.fault.StructFault.TheVariants.{ElseAfterElse, ElifAfterElse}
-use Rattle.pp_directives.specs.declared.open.Open.{Open}
-use Rattle.pp_directives.specs.Groups.{Role, OtherLine, IfLine, ElifLine, ElseLine, EndifLine, CondLine, line, Spot}
-use Rattle.pp_directives.specs.Conditions.{is_active, is_due, opened, behind_elif, behind_else, turned_by}
+use Rattle.pp_directives.specs.declared.conditional.open_section.OpenSection.{OpenSection}
+use Rattle.pp_directives.specs.Groups.{LineRole, OtherLine, IfLine, ElifLine, ElseLine, EndifLine, CondLine, line, Spot}
+use Rattle.pp_directives.specs.Conditions.{is_active, is_due, opened, after_elif, after_else, turned_by}
 use Rattle.pp_directives.specs.Following.{Ways, Then, passed_all}
-use Rattle.pp_directives.specs.Running.{Stand, Acts, Answers, behind_turn, Turns, Steps, ended, Runs}
-use Rattle.pp_directives.proofs.ThenLemmas.{Same, same_self, ◌⨾◌, then_behind, then_known, then_stopped, then_three}
+use Rattle.pp_directives.specs.Running.{RunState, Acts, Answers, after_turn, Turns, Steps, ended, Runs}
+use Rattle.pp_directives.proofs.ThenLemmas.{Same, same_self, ◌⨾◌, then_after, then_known, then_stopped, then_three}
 
 -- what lines come to one after another, where this comes of what is pending at their end
-abbrev pub Into : {A S F : Type 0} → Ways A S F → (End : List Open → S → Result S F → Type 0) → List Open → List (CondLine A) → S → Result S F → Type 0
+abbrev pub Into : {A S F : Type 0} → Ways A S F → (End : List OpenSection → S → Result S F → Type 0) → List OpenSection → List (CondLine A) → S → Result S F → Type 0
 Into ways End pending [] s r = End pending s r
 Into ways End pending (here ∷ lines) s r = Then (Steps ways here.role here.item (record { pending = pending; state = s })) (λ at. Into ways End at.pending lines at.state) r
 
 module _ {A S F : Type 0} (ways : Ways A S F) where
-  abbrev pub stand : List Open → S → Stand S
+  abbrev pub stand : List OpenSection → S → RunState S
   stand pending s = record { pending = pending; state = s }
 
   abbrev pub spotted : A → Bool → Spot
   spotted here answer = record { number = ways.spot here; answer = answer }
 
-  pub runs_into : (lines : List (CondLine A)) (p : List Open) (s : S) → Same (Runs ways p lines s) (Into ways (λ q t r. r ≡ ended ways q t) p lines s)
+  pub runs_into : (lines : List (CondLine A)) (p : List OpenSection) (s : S) → Same (Runs ways p lines s) (Into ways (λ q t r. r ≡ ended ways q t) p lines s)
   runs_into [] p s = same_self (λ r. r ≡ ended ways p s)
   runs_into (here ∷ lines) p s =
-      then_behind (Steps ways here.role here.item (stand p s)) (λ at. Runs ways at.pending lines at.state) (λ at. Into ways (λ q t r. r ≡ ended ways q t) at.pending lines at.state)
+      then_after (Steps ways here.role here.item (stand p s)) (λ at. Runs ways at.pending lines at.state) (λ at. Into ways (λ q t r. r ≡ ended ways q t) at.pending lines at.state)
       (λ at step. runs_into lines at.pending at.state)
 
   -- lines in two parts
-  pub into_on : (End : List Open → S → Result S F → Type 0) (front back : List (CondLine A)) (p : List Open) (s : S) →
+  pub into_on : (End : List OpenSection → S → Result S F → Type 0) (front back : List (CondLine A)) (p : List OpenSection) (s : S) →
       Same (Into ways End p (front ++ back) s) (Into ways (λ q t. Into ways End q back t) p front s)
   into_on End [] back p s = same_self (Into ways End p back s)
   into_on End (here ∷ front) back p s =
-      then_behind (Steps ways here.role here.item (stand p s)) (λ at. Into ways End at.pending (front ++ back) at.state) (λ at. Into ways (λ q t. Into ways End q back t) at.pending front at.state)
+      then_after (Steps ways here.role here.item (stand p s)) (λ at. Into ways End at.pending (front ++ back) at.state) (λ at. Into ways (λ q t. Into ways End q back t) at.pending front at.state)
       (λ at step. into_on End front back at.pending at.state)
 
   pub passed_two : (a b : List (CondLine A)) (s : S) → passed_all ways (a ++ b) s ≡ passed_all ways b (passed_all ways a s)
   passed_two [] b s = refl
   passed_two (here ∷ a) b s = passed_two a b (ways.passes here.item s)
 
-  -- what comes of a line that was turned or refused, and the lines behind it
-  abbrev pub Turned : (List Open → S → Result S F → Type 0) → A → S → Result (List Open) StructFault → Result S F → Type 0
+  -- what comes of a line that was turned or rejected, and the lines after it
+  abbrev pub Turned : (List OpenSection → S → Result S F → Type 0) → A → S → Result (List OpenSection) StructFault → Result S F → Type 0
   Turned Next here s (Ok pending) = Next pending (ways.passes here s)
   Turned Next here s (Err fault) = λ r. r ≡ Err (ways.breaks fault (ways.spot here))
 
-  turned_next : (Next : List Open → S → Result S F → Type 0) (here : A) (s : S) (t : Result (List Open) StructFault) →
-      Same (Then (λ q. q ≡ behind_turn ways here s t) (λ (at : Stand S). Next at.pending at.state)) (Turned Next here s t)
+  turned_next : (Next : List OpenSection → S → Result S F → Type 0) (here : A) (s : S) (t : Result (List OpenSection) StructFault) →
+      Same (Then (λ q. q ≡ after_turn ways here s t) (λ (at : RunState S). Next at.pending at.state)) (Turned Next here s t)
   turned_next Next here s (Ok pending) = then_known (stand pending (ways.passes here s)) (λ at. Next at.pending at.state)
   turned_next Next here s (Err fault) = then_stopped (ways.breaks fault (ways.spot here)) (λ at. Next at.pending at.state)
 
   -- a conditional directive and what follows it
-  pub turns_next : (Next : List Open → S → Result S F → Type 0) (role : Role) (here : A) (p : List Open) (s : S) →
+  pub turns_next : (Next : List OpenSection → S → Result S F → Type 0) (role : LineRole) (here : A) (p : List OpenSection) (s : S) →
       Same (Then (Turns ways role here (stand p s)) (λ at. Next at.pending at.state))
       (Then (Answers ways (is_due role p) here s) (λ answer. Turned Next here s (turned_by role (spotted here answer) p)))
   turns_next Next role here p s =
-      then_three (Answers ways (is_due role p) here s) (λ answer q. q ≡ behind_turn ways here s (turned_by role (spotted here answer) p)) (λ at. Next at.pending at.state)
-      ⨾ then_behind (Answers ways (is_due role p) here s)
-      (λ answer. Then (λ q. q ≡ behind_turn ways here s (turned_by role (spotted here answer) p)) (λ (at : Stand S). Next at.pending at.state))
+      then_three (Answers ways (is_due role p) here s) (λ answer q. q ≡ after_turn ways here s (turned_by role (spotted here answer) p)) (λ at. Next at.pending at.state)
+      ⨾ then_after (Answers ways (is_due role p) here s)
+      (λ answer. Then (λ q. q ≡ after_turn ways here s (turned_by role (spotted here answer) p)) (λ (at : RunState S). Next at.pending at.state))
       (λ answer. Turned Next here s (turned_by role (spotted here answer) p))
       (λ answer given. turned_next Next here s (turned_by role (spotted here answer) p))
 
   -- a line that is no conditional directive, and what follows it
-  pub acts_next : (Next : List Open → S → Result S F → Type 0) (here : A) (p : List Open) (s : S) →
+  pub acts_next : (Next : List OpenSection → S → Result S F → Type 0) (here : A) (p : List OpenSection) (s : S) →
       Same (Then (Steps ways OtherLine here (stand p s)) (λ at. Next at.pending at.state)) (Then (Acts ways (is_active p) here s) (Next p))
   acts_next Next here p s =
       then_three (Acts ways (is_active p) here s) (λ t q. q ≡ Ok (stand p t)) (λ at. Next at.pending at.state)
-      ⨾ then_behind (Acts ways (is_active p) here s) (λ t. Then (λ q. q ≡ Ok (stand p t)) (λ (at : Stand S). Next at.pending at.state)) (Next p)
+      ⨾ then_after (Acts ways (is_active p) here s) (λ t. Then (λ q. q ≡ Ok (stand p t)) (λ (at : RunState S). Next at.pending at.state)) (Next p)
       (λ t given. then_known (stand p t) (λ at. Next at.pending at.state))
 
   -- a condition that is not due
@@ -86,18 +86,18 @@ module _ {A S F : Type 0} (ways : Ways A S F) where
   acts_done false here s Next is = cc
 
   -- the steps of each kind of line
-  module _ (End : List Open → S → Result S F → Type 0) where
-    pub other_taken : (here : A) (p : List Open) (k : List (CondLine A)) (s : S) → is_active p ≡ true →
+  module _ (End : List OpenSection → S → Result S F → Type 0) where
+    pub other_taken : (here : A) (p : List OpenSection) (k : List (CondLine A)) (s : S) → is_active p ≡ true →
         Same (Into ways End p (line OtherLine here ∷ k) s) (Then (ways.Does here s) (Into ways End p k))
     other_taken here p k s is =
         acts_next (λ q t. Into ways End q k t) here p s ⨾ acts_done (is_active p) here s (Into ways End p k) is
 
-    pub other_left : (here : A) (p : List Open) (k : List (CondLine A)) (s : S) → is_active p ≡ false →
+    pub other_left : (here : A) (p : List OpenSection) (k : List (CondLine A)) (s : S) → is_active p ≡ false →
         Same (Into ways End p (line OtherLine here ∷ k) s) (Into ways End p k (ways.passes here s))
     other_left here p k s is =
         acts_next (λ q t. Into ways End q k t) here p s ⨾ acts_passed (is_active p) here s (Into ways End p k) is
 
-    pub if_taken : (here : A) (p : List Open) (k : List (CondLine A)) (s : S) → is_active p ≡ true →
+    pub if_taken : (here : A) (p : List OpenSection) (k : List (CondLine A)) (s : S) → is_active p ≡ true →
         Same (Into ways End p (line IfLine here ∷ k) s) (Then (ways.Asks here s) (λ answer. Into ways End (opened true (spotted here answer) ∷ p) k (ways.passes here s)))
     if_taken here p k s is =
         turns_next (λ q t. Into ways End q k t) IfLine here p s
@@ -106,7 +106,7 @@ module _ {A S F : Type 0} (ways : Ways A S F) where
         (Then (ways.Asks here s) (λ answer. Into ways End (opened true (spotted here answer) ∷ p) k (ways.passes here s)))) (sym is)
         (same_self (Then (ways.Asks here s) (λ answer. Into ways End (opened true (spotted here answer) ∷ p) k (ways.passes here s))))
 
-    pub if_left : (here : A) (p : List Open) (k : List (CondLine A)) (s : S) → is_active p ≡ false →
+    pub if_left : (here : A) (p : List OpenSection) (k : List (CondLine A)) (s : S) → is_active p ≡ false →
         Same (Into ways End p (line IfLine here ∷ k) s) (Into ways End (opened false (spotted here false) ∷ p) k (ways.passes here s))
     if_left here p k s is =
         turns_next (λ q t. Into ways End q k t) IfLine here p s
@@ -115,36 +115,36 @@ module _ {A S F : Type 0} (ways : Ways A S F) where
         (same_self (Into ways End (opened false (spotted here false) ∷ p) k (ways.passes here s)))
 
     -- a section where no `#else` was
-    unguarded : (has_else : Bool) (fault : StructFault) (here : A) (q : List Open) (k : List (CondLine A)) (s : S) → has_else ≡ false →
-        Same (Turned (λ p t. Into ways End p k t) here s (cond {A = Result (List Open) StructFault} has_else (Err fault) (Ok q))) (Into ways End q k (ways.passes here s))
+    unguarded : (has_else : Bool) (fault : StructFault) (here : A) (q : List OpenSection) (k : List (CondLine A)) (s : S) → has_else ≡ false →
+        Same (Turned (λ p t. Into ways End p k t) here s (cond {A = Result (List OpenSection) StructFault} has_else (Err fault) (Ok q))) (Into ways End q k (ways.passes here s))
     unguarded true fault here q k s is = cc
     unguarded false fault here q k s is = same_self (Into ways End q k (ways.passes here s))
 
-    pub elif_waiting : (here : A) (o : Open) (p : List Open) (k : List (CondLine A)) (s : S) → o.waiting ≡ true → o.has_else ≡ false →
-        Same (Into ways End (o ∷ p) (line ElifLine here ∷ k) s) (Then (ways.Asks here s) (λ answer. Into ways End (behind_elif answer o ∷ p) k (ways.passes here s)))
+    pub elif_waiting : (here : A) (o : OpenSection) (p : List OpenSection) (k : List (CondLine A)) (s : S) → o.waiting ≡ true → o.has_else ≡ false →
+        Same (Into ways End (o ∷ p) (line ElifLine here ∷ k) s) (Then (ways.Asks here s) (λ answer. Into ways End (after_elif answer o ∷ p) k (ways.passes here s)))
     elif_waiting here o p k s waits no_else =
         turns_next (λ q t. Into ways End q k t) ElifLine here (o ∷ p) s
         ⨾ due_asked o.waiting here s (λ answer. Turned (λ q t. Into ways End q k t) here s (turned_by ElifLine (spotted here answer) (o ∷ p))) waits
-        ⨾ then_behind (ways.Asks here s)
+        ⨾ then_after (ways.Asks here s)
         (λ answer. Turned (λ q t. Into ways End q k t) here s (turned_by ElifLine (spotted here answer) (o ∷ p)))
-        (λ answer. Into ways End (behind_elif answer o ∷ p) k (ways.passes here s))
-        (λ answer given. unguarded o.has_else ElifAfterElse here (behind_elif answer o ∷ p) k s no_else)
+        (λ answer. Into ways End (after_elif answer o ∷ p) k (ways.passes here s))
+        (λ answer given. unguarded o.has_else ElifAfterElse here (after_elif answer o ∷ p) k s no_else)
 
-    pub elif_done : (here : A) (o : Open) (p : List Open) (k : List (CondLine A)) (s : S) → o.waiting ≡ false → o.has_else ≡ false →
-        Same (Into ways End (o ∷ p) (line ElifLine here ∷ k) s) (Into ways End (behind_elif false o ∷ p) k (ways.passes here s))
+    pub elif_done : (here : A) (o : OpenSection) (p : List OpenSection) (k : List (CondLine A)) (s : S) → o.waiting ≡ false → o.has_else ≡ false →
+        Same (Into ways End (o ∷ p) (line ElifLine here ∷ k) s) (Into ways End (after_elif false o ∷ p) k (ways.passes here s))
     elif_done here o p k s done no_else =
         turns_next (λ q t. Into ways End q k t) ElifLine here (o ∷ p) s
         ⨾ not_due o.waiting here s (λ answer. Turned (λ q t. Into ways End q k t) here s (turned_by ElifLine (spotted here answer) (o ∷ p))) done
-        ⨾ unguarded o.has_else ElifAfterElse here (behind_elif false o ∷ p) k s no_else
+        ⨾ unguarded o.has_else ElifAfterElse here (after_elif false o ∷ p) k s no_else
 
-    pub else_turns : (here : A) (o : Open) (p : List Open) (k : List (CondLine A)) (s : S) → o.has_else ≡ false →
-        Same (Into ways End (o ∷ p) (line ElseLine here ∷ k) s) (Into ways End (behind_else o ∷ p) k (ways.passes here s))
+    pub else_turns : (here : A) (o : OpenSection) (p : List OpenSection) (k : List (CondLine A)) (s : S) → o.has_else ≡ false →
+        Same (Into ways End (o ∷ p) (line ElseLine here ∷ k) s) (Into ways End (after_else o ∷ p) k (ways.passes here s))
     else_turns here o p k s no_else =
         turns_next (λ q t. Into ways End q k t) ElseLine here (o ∷ p) s
         ⨾ not_due false here s (λ answer. Turned (λ q t. Into ways End q k t) here s (turned_by ElseLine (spotted here answer) (o ∷ p))) refl
-        ⨾ unguarded o.has_else ElseAfterElse here (behind_else o ∷ p) k s no_else
+        ⨾ unguarded o.has_else ElseAfterElse here (after_else o ∷ p) k s no_else
 
-    pub endif_turns : (here : A) (o : Open) (p : List Open) (k : List (CondLine A)) (s : S) →
+    pub endif_turns : (here : A) (o : OpenSection) (p : List OpenSection) (k : List (CondLine A)) (s : S) →
         Same (Into ways End (o ∷ p) (line EndifLine here ∷ k) s) (Into ways End p k (ways.passes here s))
     endif_turns here o p k s =
         turns_next (λ q t. Into ways End q k t) EndifLine here (o ∷ p) s

@@ -11,7 +11,7 @@ pub mod ClosingLemmas
 pub mod Examples
 pub mod NumberLemmas
 pub mod SymbolLemmas
-pub mod FrameLemmas
+pub mod OperandContextLemmas
 pub mod ThenLemmas
 pub mod IntoLemmas
 pub mod FollowLemmas

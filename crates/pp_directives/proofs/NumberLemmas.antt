@@ -3,13 +3,13 @@ use Rattle.std.proofs.Common.{Option, sym, eq-eqb, Bool, true, false, if◌then�
 use Rattle.std.proofs.lemmas.Bool.{ne_eqb}
 use Rattle.std.proofs.lemmas.Bool.Decides.{nat_tests}
 use Rattle.std.specs.Option.{option_map}
-use Rattle.pp_directives.specs.Constants.{digit_value, spelled_behind, below, before_quote}
+use Rattle.pp_directives.specs.Constants.{digit_value, spelled_after, below, before_quote}
 
 grows : (n base d : ℕ) → 0 < base → n ≤ n * base + d
 grows n base d h = grind arith
 
 -- digits only add to a number
-pub spelled_grows : (base n : ℕ) (ds : List ℕ) → 0 < base → n ≤ spelled_behind base n ds
+pub spelled_grows : (base n : ℕ) (ds : List ℕ) → 0 < base → n ≤ spelled_after base n ds
 spelled_grows base n [] h = omega arith
 spelled_grows base n (d ∷ ds) h =
     let here = grows n base (digit_value d) h in let rest = spelled_grows base (n * base + digit_value d) ds h in omega arith
@@ -18,7 +18,7 @@ spelled_grows base n (d ∷ ds) h =
 pub none_below : (limit n m : ℕ) → below limit n ≡ None → n ≤ m → below limit m ≡ None
 none_below limit n m none h = grind (arith, nat_tests)
 
--- a byte behind what a byte stands before
+-- a byte after what comes before a byte
 chosen : (b : ℕ) (test : Bool) (front : List ℕ) → option_map (λ f. b ∷ f) (if test then Some front else None) ≡ (if test then Some (b ∷ front) else None)
 chosen b true front = refl
 chosen b false front = refl

@@ -1,11 +1,11 @@
 -- Lines one after another come to one thing, where each line and each condition does.
 use Rattle.std.proofs.Common.{◌≡◌, Bool, true, false, List, [], ◌∷◌, Result, Ok, Err, refl, sym, ap, ◌∙◌, subst}
 use Rattle.mac_base.proofs.Choices.{same_ok}
-use Rattle.pp_directives.specs.declared.open.Open.{Open}
-use Rattle.pp_directives.specs.Groups.{Role, OtherLine, IfLine, ElifLine, ElseLine, EndifLine, CondLine}
+use Rattle.pp_directives.specs.declared.conditional.open_section.OpenSection.{OpenSection}
+use Rattle.pp_directives.specs.Groups.{LineRole, OtherLine, IfLine, ElifLine, ElseLine, EndifLine, CondLine}
 use Rattle.pp_directives.specs.Conditions.{is_active, is_due, turned_by}
 use Rattle.pp_directives.specs.Following.{Ways, Then, Stops, Goes, FollowsFile}
-use Rattle.pp_directives.specs.Running.{Stand, Acts, Answers, behind_turn, Turns, Steps, ended, Runs}
+use Rattle.pp_directives.specs.Running.{RunState, Acts, Answers, after_turn, Turns, Steps, ended, Runs}
 use Rattle.pp_directives.specs.FollowingLaws.{HasOneAtMost, HasOne, LinesRunAsTheirTree}
 use Rattle.pp_directives.proofs.ThenLemmas.{same_err}
 use Rattle.pp_directives.proofs.IntoLemmas.{stand, spotted}
@@ -46,12 +46,12 @@ module _ {A S F : Type 0} (ways : Ways A S F) where
     answers_one true here s = asks here s
     answers_one false here s = equal_one (Ok false)
 
-    turns_one : (role : Role) (here : A) (at : Stand S) → AtMostOne (Turns ways role here at)
+    turns_one : (role : LineRole) (here : A) (at : RunState S) → AtMostOne (Turns ways role here at)
     turns_one role here at =
-        then_one (Answers ways (is_due role at.pending) here at.state) (λ answer r. r ≡ behind_turn ways here at.state (turned_by role (spotted ways here answer) at.pending))
-        (answers_one (is_due role at.pending) here at.state) (λ answer. equal_one (behind_turn ways here at.state (turned_by role (spotted ways here answer) at.pending)))
+        then_one (Answers ways (is_due role at.pending) here at.state) (λ answer r. r ≡ after_turn ways here at.state (turned_by role (spotted ways here answer) at.pending))
+        (answers_one (is_due role at.pending) here at.state) (λ answer. equal_one (after_turn ways here at.state (turned_by role (spotted ways here answer) at.pending)))
 
-    steps_one : (role : Role) (here : A) (at : Stand S) → AtMostOne (Steps ways role here at)
+    steps_one : (role : LineRole) (here : A) (at : RunState S) → AtMostOne (Steps ways role here at)
     steps_one OtherLine here at =
         then_one (Acts ways (is_active at.pending) here at.state) (λ t q. q ≡ Ok (stand ways at.pending t)) (acts_one (is_active at.pending) here at.state) (λ t. equal_one (Ok (stand ways at.pending t)))
     steps_one IfLine here at = turns_one IfLine here at
@@ -59,7 +59,7 @@ module _ {A S F : Type 0} (ways : Ways A S F) where
     steps_one ElseLine here at = turns_one ElseLine here at
     steps_one EndifLine here at = turns_one EndifLine here at
 
-    runs_one : (lines : List (CondLine A)) (p : List Open) (s : S) → AtMostOne (Runs ways p lines s)
+    runs_one : (lines : List (CondLine A)) (p : List OpenSection) (s : S) → AtMostOne (Runs ways p lines s)
     runs_one [] p s = equal_one (ended ways p s)
     runs_one (here ∷ lines) p s =
         then_one (Steps ways here.role here.item (stand ways p s)) (λ at. Runs ways at.pending lines at.state) (steps_one here.role here.item (stand ways p s)) (λ at. runs_one lines at.pending at.state)
@@ -76,12 +76,12 @@ module _ {A S F : Type 0} (ways : Ways A S F) where
     answers_some true here s = asks here s
     answers_some false here s = (Ok false, refl)
 
-    turns_some : (role : Role) (here : A) (at : Stand S) → Some (Turns ways role here at)
+    turns_some : (role : LineRole) (here : A) (at : RunState S) → Some (Turns ways role here at)
     turns_some role here at =
-        then_some (Answers ways (is_due role at.pending) here at.state) (λ answer r. r ≡ behind_turn ways here at.state (turned_by role (spotted ways here answer) at.pending))
-        (answers_some (is_due role at.pending) here at.state) (λ answer. (behind_turn ways here at.state (turned_by role (spotted ways here answer) at.pending), refl))
+        then_some (Answers ways (is_due role at.pending) here at.state) (λ answer r. r ≡ after_turn ways here at.state (turned_by role (spotted ways here answer) at.pending))
+        (answers_some (is_due role at.pending) here at.state) (λ answer. (after_turn ways here at.state (turned_by role (spotted ways here answer) at.pending), refl))
 
-    steps_some : (role : Role) (here : A) (at : Stand S) → Some (Steps ways role here at)
+    steps_some : (role : LineRole) (here : A) (at : RunState S) → Some (Steps ways role here at)
     steps_some OtherLine here at =
         then_some (Acts ways (is_active at.pending) here at.state) (λ t q. q ≡ Ok (stand ways at.pending t)) (acts_some (is_active at.pending) here at.state) (λ t. (Ok (stand ways at.pending t), refl))
     steps_some IfLine here at = turns_some IfLine here at
@@ -89,7 +89,7 @@ module _ {A S F : Type 0} (ways : Ways A S F) where
     steps_some ElseLine here at = turns_some ElseLine here at
     steps_some EndifLine here at = turns_some EndifLine here at
 
-    runs_some : (lines : List (CondLine A)) (p : List Open) (s : S) → Some (Runs ways p lines s)
+    runs_some : (lines : List (CondLine A)) (p : List OpenSection) (s : S) → Some (Runs ways p lines s)
     runs_some [] p s = (ended ways p s, refl)
     runs_some (here ∷ lines) p s =
         then_some (Steps ways here.role here.item (stand ways p s)) (λ at. Runs ways at.pending lines at.state) (steps_some here.role here.item (stand ways p s)) (λ at. runs_some lines at.pending at.state)

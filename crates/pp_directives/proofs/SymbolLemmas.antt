@@ -7,31 +7,31 @@ use Rattle.pp_tokens.specs.declared.token.Kind.{Kind}
 use Rattle.pp_tokens.specs.declared.token.Kind.TheVariants.{Identifier, Number as NumberKind, Char, Str, Punct, Header, LoneQuote, Other as OtherKind}
 use Rattle.pp_directives.specs.declared.fault.ExprFault.{ExprFault}
 use Rattle.pp_directives.specs.declared.fault.ExprFault.TheVariants.{BadNumber, BadChar, DefinedFromMacro}
-use Rattle.pp_directives.specs.declared.number.Number.{Number}
-use Rattle.pp_directives.specs.declared.symbol.Symbol.{Symbol}
+use Rattle.pp_directives.specs.declared.expression.number.Number.{Number}
+use Rattle.pp_directives.specs.declared.expression.symbol.Symbol.{Symbol}
 use Rattle.pp_directives.specs.Constants.{number_of, character_of}
 use Rattle.pp_directives.specs.Values.{constant_or, symbol_by, symbol_of, symbols_of, is_defined, condition_symbols}
 use Rattle.pp_directives.specs.ValueLaws.{is_token_fault}
 
 -- the symbols with those before them
-abbrev pub behind : List Symbol → Result (List Symbol) ExprFault → Result (List Symbol) ExprFault
-behind front rest = rest >>= λ list. Ok (front ++ list)
+abbrev pub after : List Symbol → Result (List Symbol) ExprFault → Result (List Symbol) ExprFault
+after front rest = rest >>= λ list. Ok (front ++ list)
 
 -- one symbol more is before the rest
-with_one : (front : List Symbol) (s : Symbol) (rest : Result (List Symbol) ExprFault) → behind (front ++ s ∷ []) rest ≡ behind front (rest >>= λ list. Ok (s ∷ list))
+with_one : (front : List Symbol) (s : Symbol) (rest : Result (List Symbol) ExprFault) → after (front ++ s ∷ []) rest ≡ after front (rest >>= λ list. Ok (s ∷ list))
 with_one front s (Ok list) = ap Ok (append_assoc front (s ∷ []) list)
 with_one front s (Err fault) = refl
 
-taken : (front : List Symbol) (o : Result Symbol ExprFault) (s : Symbol) (rest : Result (List Symbol) ExprFault) → o ≡ Ok s → behind (front ++ s ∷ []) rest ≡ behind front (o >>= λ s. rest >>= λ list. Ok (s ∷ list))
-taken front o s rest e = with_one front s rest ∙ sym (ap (λ o. behind front (o >>= λ s. rest >>= λ list. Ok (s ∷ list))) e)
+taken : (front : List Symbol) (o : Result Symbol ExprFault) (s : Symbol) (rest : Result (List Symbol) ExprFault) → o ≡ Ok s → after (front ++ s ∷ []) rest ≡ after front (o >>= λ s. rest >>= λ list. Ok (s ∷ list))
+taken front o s rest e = with_one front s rest ∙ sym (ap (λ o. after front (o >>= λ s. rest >>= λ list. Ok (s ∷ list))) e)
 
 -- a token has this symbol
-pub symbols-more : (front : List Symbol) (t : Token) (ts : List Token) (s : Symbol) → symbol_of t ≡ Ok s → behind (front ++ s ∷ []) (symbols_of ts) ≡ behind front (symbols_of (t ∷ ts))
+pub symbols-more : (front : List Symbol) (t : Token) (ts : List Token) (s : Symbol) → symbol_of t ≡ Ok s → after (front ++ s ∷ []) (symbols_of ts) ≡ after front (symbols_of (t ∷ ts))
 symbols-more front t ts s e = taken front (symbol_of t) s (symbols_of ts) e
 
 -- a token has a fault
-pub symbols-fault : (front : List Symbol) (t : Token) (ts : List Token) (fault : ExprFault) → symbol_of t ≡ Err fault → behind front (symbols_of (t ∷ ts)) ≡ Err fault
-symbols-fault front t ts fault e = ap (λ o. behind front (o >>= λ s. symbols_of ts >>= λ list. Ok (s ∷ list))) e
+pub symbols-fault : (front : List Symbol) (t : Token) (ts : List Token) (fault : ExprFault) → symbol_of t ≡ Err fault → after front (symbols_of (t ∷ ts)) ≡ Err fault
+symbols-fault front t ts fault e = ap (λ o. after front (o >>= λ s. symbols_of ts >>= λ list. Ok (s ∷ list))) e
 
 -- the fault, if there is one, is one of tokens
 abbrev OfTokens : {A : Type 0} → Result A ExprFault → Type 0

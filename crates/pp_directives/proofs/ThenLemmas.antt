@@ -21,20 +21,20 @@ pub same_err : {A E : Type 0} (x y : E) → ◌≡◌ {A = Result A E} (Err x) (
 same_err x y is = cc
 
 module _ {S T F : Type 0} where
-  -- a first that is the same, and a next that is so behind it
+  -- a first that is the same, and a next that is so after it
   then_on : (P Q : Result S F → Type 0) (N M : S → Result T F → Type 0) → ((r : Result S F) → P r → Q r) →
       ((s : S) → P (Ok s) → (r : Result T F) → N s r → M s r) → (r : Result T F) → Then P N r → Then Q M r
   then_on P Q N M first next _ (Stops {fault = f} stop) = Stops (first (Err f) stop)
   then_on P Q N M first next _ (Goes {s = s} {r = r} go more) = Goes (first (Ok s) go) (next s go r more)
 
   -- what follows matters only where it is come to
-  pub then_behind : (P : Result S F → Type 0) (N M : S → Result T F → Type 0) → ((s : S) → P (Ok s) → Same (N s) (M s)) → Same (Then P N) (Then P M)
-  then_behind P N M next r = (
+  pub then_after : (P : Result S F → Type 0) (N M : S → Result T F → Type 0) → ((s : S) → P (Ok s) → Same (N s) (M s)) → Same (Then P N) (Then P M)
+  then_after P N M next r = (
     then_on P P N M (λ q p. p) (λ s go q. (next s go q).0) r,
     then_on P P M N (λ q p. p) (λ s go q. (next s go q).1) r,
   )
 
-  -- behind a first that is known
+  -- after a first that is known
   known : (x : S) (N : S → Result T F → Type 0) (r : Result T F) → Then (λ q. q ≡ Ok x) N r → N x r
   known x N _ (Stops stop) = cc
   known x N _ (Goes {s = s} {r = r} go more) = subst (λ y. N y r) (same_ok {E = F} s x go) more
@@ -62,27 +62,27 @@ module _ {S F : Type 0} where
   ends P (Ok x) p = Goes p refl
   ends P (Err e) p = Stops p
 
-  -- behind a last
+  -- after a last
   pub then_last : (P : Result S F → Type 0) → Same (Then P (λ t q. q ≡ Ok t)) P
   then_last P r = (last P r, ends P r)
 
 module _ {S T U F : Type 0} (P : Result S F → Type 0) (N : S → Result T F → Type 0) (M : T → Result U F → Type 0) where
   -- what follows two
-  abbrev Behind : Result T F → Type 0
-  Behind (Ok t) = (r : Result U F) → M t r → Then P (λ s. Then (N s) M) r
-  Behind (Err f) = Then P (λ s. Then (N s) M) (Err f)
+  abbrev After : Result T F → Type 0
+  After (Ok t) = (r : Result U F) → M t r → Then P (λ s. Then (N s) M) r
+  After (Err f) = Then P (λ s. Then (N s) M) (Err f)
 
-  behind_next : (s : S) (r : Result T F) → P (Ok s) → N s r → Behind r
-  behind_next s (Ok t) go more = λ r m. Goes go (Goes more m)
-  behind_next s (Err f) go more = Goes go (Stops more)
+  after_next : (s : S) (r : Result T F) → P (Ok s) → N s r → After r
+  after_next s (Ok t) go more = λ r m. Goes go (Goes more m)
+  after_next s (Err f) go more = Goes go (Stops more)
 
-  behind_two : (r : Result T F) → Then P N r → Behind r
-  behind_two _ (Stops stop) = Stops stop
-  behind_two _ (Goes {s = s} {r = r} go more) = behind_next s r go more
+  after_two : (r : Result T F) → Then P N r → After r
+  after_two _ (Stops stop) = Stops stop
+  after_two _ (Goes {s = s} {r = r} go more) = after_next s r go more
 
   together : (r : Result U F) → Then (Then P N) M r → Then P (λ s. Then (N s) M) r
-  together _ (Stops {fault = f} stop) = behind_two (Err f) stop
-  together _ (Goes {s = t} {r = r} go more) = behind_two (Ok t) go r more
+  together _ (Stops {fault = f} stop) = after_two (Err f) stop
+  together _ (Goes {s = t} {r = r} go more) = after_two (Ok t) go r more
 
   two_first : (s : S) → P (Ok s) → (r : Result U F) → Then (N s) M r → Then (Then P N) M r
   two_first s go _ (Stops stop) = Stops (Goes go stop)

@@ -4,12 +4,12 @@ use Rattle.std.specs.Prelude.{int_div}
 use Rattle.mac_base.specs.Input.{◌>>=◌}
 use Rattle.pp_directives.specs.declared.fault.ExprFault.{ExprFault}
 use Rattle.pp_directives.specs.declared.fault.ExprFault.TheVariants.{Overflow, ZeroDivisor}
-use Rattle.pp_directives.specs.declared.number.Number.{Number}
-use Rattle.pp_directives.specs.declared.number.Number.TheVariants.{Signed, Unsigned}
-use Rattle.pp_directives.specs.declared.symbol.Infix.{Infix}
-use Rattle.pp_directives.specs.declared.symbol.Infix.TheVariants.{LogicalOr, LogicalAnd, Or, Xor, And, Equal, Unequal, Less, Greater, AtMost, AtLeast, ShiftLeft, ShiftRight, Add, Subtract, Multiply, Divide, Remain}
-use Rattle.pp_directives.specs.declared.symbol.Prefix.{Prefix}
-use Rattle.pp_directives.specs.declared.symbol.Prefix.TheVariants.{Plus, Minus, Complement, Not}
+use Rattle.pp_directives.specs.declared.expression.number.Number.{Number}
+use Rattle.pp_directives.specs.declared.expression.number.Number.TheVariants.{Signed, Unsigned}
+use Rattle.pp_directives.specs.declared.expression.symbol.Infix.{Infix}
+use Rattle.pp_directives.specs.declared.expression.symbol.Infix.TheVariants.{LogicalOr, LogicalAnd, Or, Xor, And, Equal, Unequal, Less, Greater, AtMost, AtLeast, ShiftLeft, ShiftRight, Add, Subtract, Multiply, Divide, Remain}
+use Rattle.pp_directives.specs.declared.expression.symbol.Prefix.{Prefix}
+use Rattle.pp_directives.specs.declared.expression.symbol.Prefix.TheVariants.{Plus, Minus, Complement, Not}
 use Rattle.pp_directives.specs.Numbers.{Computed, is_unsigned, bits_of, is_zero, of_bits, converted, is_in_range, signed, truth, sum_of, difference_of, product_of, divided, quotient_of, remainder_of, bitwise, places_of, shifted_by, times_power, over_power, left_shift_of, right_shift_of, negated}
 use Rattle.pp_directives.specs.ValueLaws.{is_value_fault}
 use Rattle.pp_directives.specs.Expressions.{Tree, Leaf, Unary, Binary, Choice}
@@ -24,9 +24,9 @@ either : (u test : Bool) (a b : Computed) → OfType u a → OfType u b → OfTy
 either u true a b p q = p
 either u false a b p q = q
 
-behind : (u v : Bool) (a : Computed) (f : Number → Computed) → OfType u a → ((x : Number) → is_unsigned x ≡ u → OfType v (f x)) → OfType v (a >>= f)
-behind u v (Ok x) f p q = q x p
-behind u v (Err fault) f p q = p
+after : (u v : Bool) (a : Computed) (f : Number → Computed) → OfType u a → ((x : Number) → is_unsigned x ≡ u → OfType v (f x)) → OfType v (a >>= f)
+after u v (Ok x) f p q = q x p
+after u v (Err fault) f p q = p
 
 of_signed : (z : ℤ) → OfType false (signed z)
 of_signed z = either false (is_in_range z) (Ok (Signed z)) (Err Overflow) refl refl
@@ -87,16 +87,16 @@ of_shift u (Some n) f p = p n
 -- an operator in the common type of its operands
 in_common : (f : Number → Number → Computed) → ((a b : Number) → OfType (is_unsigned a || is_unsigned b) (f a b)) → (x : Number) (v : Bool) (b : Computed) → OfType v b →
     OfType (is_unsigned x || v) (b >>= f x)
-in_common f p x v b h = behind v (is_unsigned x || v) b (f x) h (λ y e. subst (λ w. OfType (is_unsigned x || w) (f x y)) e (p x y))
+in_common f p x v b h = after v (is_unsigned x || v) b (f x) h (λ y e. subst (λ w. OfType (is_unsigned x || w) (f x y)) e (p x y))
 
 in_left : (f : Number → Number → Computed) → ((a b : Number) → OfType (is_unsigned a) (f a b)) → (x : Number) (v : Bool) (b : Computed) → OfType v b → OfType (is_unsigned x) (b >>= f x)
-in_left f p x v b h = behind v (is_unsigned x) b (f x) h (λ y e. p x y)
+in_left f p x v b h = after v (is_unsigned x) b (f x) h (λ y e. p x y)
 
 tested : (test : Number → Bool) (v : Bool) (b : Computed) → OfType v b → OfType false (b >>= λ y. truth (test y))
-tested test v b h = behind v false b (λ y. truth (test y)) h (λ y e. refl)
+tested test v b h = after v false b (λ y. truth (test y)) h (λ y e. refl)
 
 of_truth : (v : Bool) (b : Computed) → OfType v b → OfType false (truth_of b)
-of_truth v b h = behind v false b (λ y. truth (not (is_zero y))) h (λ y e. refl)
+of_truth v b h = after v false b (λ y. truth (not (is_zero y))) h (λ y e. refl)
 
 of_infix : (op : Infix) (x : Number) (v : Bool) (b : Computed) → OfType v b → OfType (infixed_type op (is_unsigned x) v) (infixed op x b)
 of_infix LogicalOr x v b h = either false (is_zero x) (truth_of b) (truth true) (of_truth v b h) refl
@@ -140,18 +140,18 @@ widened_right false true y e = refl
 widened_right false false y e = e
 
 of_choice : (u v : Bool) (test : Bool) (a b : Computed) → OfType u a → OfType v b → OfType (u || v) ((if test then b else a) >>= λ y. Ok (converted (u || v) y))
-of_choice u v true a b p q = behind v (u || v) b (λ y. Ok (converted (u || v) y)) q (λ y e. widened_right u v y e)
-of_choice u v false a b p q = behind u (u || v) a (λ y. Ok (converted (u || v) y)) p (λ y e. widened u v y e)
+of_choice u v true a b p q = after v (u || v) b (λ y. Ok (converted (u || v) y)) q (λ y e. widened_right u v y e)
+of_choice u v false a b p q = after u (u || v) a (λ y. Ok (converted (u || v) y)) p (λ y e. widened u v y e)
 
 of_tree : (t : Tree) → OfType (type_of t) (value_of t)
 of_tree (Leaf n) = refl
 of_tree (Unary op a) =
-    behind (type_of a) (prefixed_type op (type_of a)) (value_of a) (prefixed op) (of_tree a) (λ x e. subst (λ u. OfType (prefixed_type op u) (prefixed op x)) e (of_prefix op x))
+    after (type_of a) (prefixed_type op (type_of a)) (value_of a) (prefixed op) (of_tree a) (λ x e. subst (λ u. OfType (prefixed_type op u) (prefixed op x)) e (of_prefix op x))
 of_tree (Binary op a b) =
-    behind (type_of a) (infixed_type op (type_of a) (type_of b)) (value_of a) (λ x. infixed op x (value_of b)) (of_tree a)
+    after (type_of a) (infixed_type op (type_of a) (type_of b)) (value_of a) (λ x. infixed op x (value_of b)) (of_tree a)
     (λ x e. subst (λ u. OfType (infixed_type op u (type_of b)) (infixed op x (value_of b))) e (of_infix op x (type_of b) (value_of b) (of_tree b)))
 of_tree (Choice c a b) =
-    behind (type_of c) (type_of a || type_of b) (value_of c) (λ x. chosen (type_of a || type_of b) x (value_of a) (value_of b)) (of_tree c)
+    after (type_of c) (type_of a || type_of b) (value_of c) (λ x. chosen (type_of a || type_of b) x (value_of a) (value_of b)) (of_tree c)
     (λ x e. of_choice (type_of a) (type_of b) (is_zero x) (value_of a) (value_of b) (of_tree a) (of_tree b))
 
 pub has_type : (t : Tree) (n : Number) → value_of t ≡ Ok n → is_unsigned n ≡ type_of t

@@ -3,8 +3,8 @@ use Rattle.std.specs.Prelude.{ℕ, zero, suc, ◌+◌, ◌-◌, ◌*◌, ◌^◌
 use Rattle.std.specs.Int.{w8, cast_signed}
 use Rattle.std.specs.List.{list_all, prefix_len}
 use Rattle.std.specs.Option.{option_map, option_and_then}
-use Rattle.pp_directives.specs.declared.number.Number.{Number}
-use Rattle.pp_directives.specs.declared.number.Number.TheVariants.{Signed, Unsigned}
+use Rattle.pp_directives.specs.declared.expression.number.Number.{Number}
+use Rattle.pp_directives.specs.declared.expression.number.Number.TheVariants.{Signed, Unsigned}
 
 -- the value of `0` to `9`, `a` to `f` and `A` to `F`; 16, which no base has, for other bytes
 abbrev pub digit_value : ℕ → ℕ
@@ -18,14 +18,14 @@ digit_value b =
 abbrev pub is_digit_of : ℕ → ℕ → Bool
 is_digit_of base b = nat_lt (digit_value b) base
 
--- the number that digits spell behind a number
-abbrev pub spelled_behind : ℕ → ℕ → List ℕ → ℕ
-spelled_behind base n [] = n
-spelled_behind base n (d ∷ ds) = spelled_behind base (n * base + digit_value d) ds
+-- the number that digits spell after a number
+abbrev pub spelled_after : ℕ → ℕ → List ℕ → ℕ
+spelled_after base n [] = n
+spelled_after base n (d ∷ ds) = spelled_after base (n * base + digit_value d) ds
 
 -- the number that digits of that base spell
 abbrev pub spelled : ℕ → List ℕ → ℕ
-spelled base digits = spelled_behind base 0 digits
+spelled base digits = spelled_after base 0 digits
 
 -- `u` or `U`
 abbrev pub is_u : ℕ → Bool
@@ -51,12 +51,12 @@ suffix_of (a ∷ b ∷ []) = suffix_if ((is_u a && is_l b) || (is_l a && is_u b)
 suffix_of (a ∷ b ∷ c ∷ []) = suffix_if ((is_u a && is_ll b c) || (is_ll a b && is_u c)) true None
 suffix_of _ = None
 
--- `0x` or `0X` in front
+-- begins with `0x` or `0X`
 abbrev pub is_hexadecimal : List ℕ → Bool
 is_hexadecimal (a ∷ b ∷ bs) = (a == 48) && ((b == 120) || (b == 88))
 is_hexadecimal _ = false
 
--- `0` in front
+-- begins with `0`
 abbrev pub has_zero : List ℕ → Bool
 has_zero [] = false
 has_zero (b ∷ bs) = b == 48
@@ -66,8 +66,8 @@ abbrev pub base_of : List ℕ → ℕ
 base_of text = if is_hexadecimal text then 16 else (if has_zero text then 8 else 10)
 
 -- the digits and the suffix of a number that is spelled so
-abbrev pub behind_prefix : List ℕ → List ℕ
-behind_prefix text = if is_hexadecimal text then drop 2 text else text
+abbrev pub after_prefix : List ℕ → List ℕ
+after_prefix text = if is_hexadecimal text then drop 2 text else text
 
 -- A constant with `u` is unsigned. Another is signed where it fits, else unsigned where it isn't decimal (6.4.4.1 p5, with both types of 64 bits).
 abbrev pub typed : ℕ → Bool → ℕ → Option Number
@@ -81,15 +81,15 @@ abbrev pub integer : ℕ → ℕ → List ℕ → Option Number
 integer base zero text = None
 integer base (suc n) text = option_and_then (λ with_u. typed base with_u (spelled base (take (suc n) text))) (suffix_of (drop (suc n) text))
 
--- the digits in front of that base, and a suffix
+-- the longest prefix of digits of that base, and a suffix
 abbrev pub integer_of : ℕ → List ℕ → Option Number
 integer_of base text = integer base (prefix_len (is_digit_of base) text) text
 
 -- the value of a number token; none where it is no integer constant, or one that has no type
 abbrev pub number_of : List ℕ → Option Number
-number_of text = integer_of (base_of text) (behind_prefix text)
+number_of text = integer_of (base_of text) (after_prefix text)
 
--- what a simple escape sequence stands for: `'`, `"`, `?`, `\`, `a`, `b`, `f`, `n`, `r`, `t` and `v` behind `\` (5.2.2)
+-- what a simple escape sequence stands for: `'`, `"`, `?`, `\`, `a`, `b`, `f`, `n`, `r`, `t` and `v` after `\` (5.2.2)
 abbrev pub simple_escape : ℕ → Option ℕ
 simple_escape b =
     if (b == 39) || (b == 34) || (b == 63) || (b == 92) then Some b
@@ -112,7 +112,7 @@ abbrev pub simple_alone : ℕ → List ℕ → Option ℕ
 simple_alone b [] = simple_escape b
 simple_alone b (c ∷ cs) = None
 
--- what an escape sequence is behind its `\`: a byte alone, one to three octal digits, or `x` and hexadecimal digits
+-- what an escape sequence is after its `\`: a byte alone, one to three octal digits, or `x` and hexadecimal digits
 abbrev pub escape : List ℕ → Option ℕ
 escape [] = None
 escape (b ∷ bs) =
@@ -129,7 +129,7 @@ abbrev pub plain_alone : ℕ → List ℕ → Option ℕ
 plain_alone b [] = if is_plain b then Some b else None
 plain_alone b (c ∷ cs) = None
 
--- the value of what stands between the quotes: exactly one byte, or one escape sequence
+-- The value of what is between the quotes: exactly one byte, or one escape sequence. The project's own: several characters have no value, where 6.4.4.4 p10 and p11 leave it to the implementation.
 abbrev pub element : List ℕ → Option ℕ
 element [] = None
 element (b ∷ bs) = if b == 92 then escape bs else plain_alone b bs
@@ -140,7 +140,7 @@ before_quote [] = None
 before_quote (b ∷ []) = if b == 39 then Some [] else None
 before_quote (b ∷ c ∷ cs) = option_map (λ front. b ∷ front) (before_quote (c ∷ cs))
 
--- the value between a `'` in front and a `'` at the end
+-- the value between a `'` at the beginning and a `'` at the end
 abbrev pub quoted : List ℕ → Option ℕ
 quoted [] = None
 quoted (b ∷ bs) = if b == 39 then option_and_then element (before_quote bs) else None

@@ -23,29 +23,29 @@ is_defined table name = is_built_in name || is_some (finite.get table name)
 abbrev pub truth : Token → Bool → Token
 truth t held = record { kind = Number; text = if held then codes "1" else codes "0"; space = t.space }
 
--- a token in front
+-- one token more, at the front of the list
 abbrev pub before : Token → Result (List Token) ExprFault → Result (List Token) ExprFault
 before t rest = rest >>= λ ts. Ok (t ∷ ts)
 
 abbrev mutual
-  -- the tokens with a number in place of each `defined NAME` and each `defined ( NAME )`; another use of `defined` is refused
+  -- the tokens with a number in place of each `defined NAME` and each `defined ( NAME )`; another use of `defined` is rejected
   pub resolved : (List ℕ → Bool) → List Token → Result (List Token) ExprFault
   resolved defined [] = Ok []
-  resolved defined (t ∷ ts) = if is_spelled (codes "defined") t then behind_defined defined t ts else before t (resolved defined ts)
+  resolved defined (t ∷ ts) = if is_spelled (codes "defined") t then after_defined defined t ts else before t (resolved defined ts)
 
-  -- behind `defined` stands a name, or `(`
-  pub behind_defined : (List ℕ → Bool) → Token → List Token → Result (List Token) ExprFault
-  behind_defined defined t [] = Err Syntax
-  behind_defined defined t (n ∷ ts) =
+  -- after `defined` comes a name, or `(`
+  pub after_defined : (List ℕ → Bool) → Token → List Token → Result (List Token) ExprFault
+  after_defined defined t [] = Err Syntax
+  after_defined defined t (n ∷ ts) =
       if is_identifier n then before (truth t (defined n.text)) (resolved defined ts)
-      else (if is_spelled (codes "(") n then behind_parenthesis defined t ts else Err Syntax)
+      else (if is_spelled (codes "(") n then after_parenthesis defined t ts else Err Syntax)
 
-  -- behind `(` stands a name
-  pub behind_parenthesis : (List ℕ → Bool) → Token → List Token → Result (List Token) ExprFault
-  behind_parenthesis defined t [] = Err Syntax
-  behind_parenthesis defined t (n ∷ ts) = if is_identifier n then behind_name defined t n ts else Err Syntax
+  -- after `(` comes a name
+  pub after_parenthesis : (List ℕ → Bool) → Token → List Token → Result (List Token) ExprFault
+  after_parenthesis defined t [] = Err Syntax
+  after_parenthesis defined t (n ∷ ts) = if is_identifier n then after_name defined t n ts else Err Syntax
 
-  -- behind the name stands `)`
-  pub behind_name : (List ℕ → Bool) → Token → Token → List Token → Result (List Token) ExprFault
-  behind_name defined t n [] = Err Syntax
-  behind_name defined t n (c ∷ ts) = if is_spelled (codes ")") c then before (truth t (defined n.text)) (resolved defined ts) else Err Syntax
+  -- after the name comes `)`
+  pub after_name : (List ℕ → Bool) → Token → Token → List Token → Result (List Token) ExprFault
+  after_name defined t n [] = Err Syntax
+  after_name defined t n (c ∷ ts) = if is_spelled (codes ")") c then before (truth t (defined n.text)) (resolved defined ts) else Err Syntax

@@ -1,12 +1,12 @@
--- Conditional expressions without the comma (C17 6.5.2 to 6.5.15, 6.6): their symbols, their syntax trees, and which lists of symbols spell which tree.
+-- Conditional expressions (C17 6.5.1 to 6.5.15, 6.6): their symbols, their syntax trees, and which lists of symbols spell which tree. The project's own: a comma, an assignment and a call are rejected also where nothing evaluates them, which 6.6 p3 allows.
 use Rattle.std.specs.Prelude.{◌≡◌, ℕ, suc, List, [], ◌∷◌, ◌++◌, Option, None, Some}
-use Rattle.pp_directives.specs.declared.number.Number.{Number}
-use Rattle.pp_directives.specs.declared.symbol.Symbol.{Symbol}
-use Rattle.pp_directives.specs.declared.symbol.Symbol.TheVariants.{Constant, Operator, Tilde, Bang, Open, Close, Question, Colon}
-use Rattle.pp_directives.specs.declared.symbol.Infix.{Infix}
-use Rattle.pp_directives.specs.declared.symbol.Infix.TheVariants.{LogicalOr, LogicalAnd, Or, Xor, And, Equal, Unequal, Less, Greater, AtMost, AtLeast, ShiftLeft, ShiftRight, Add, Subtract, Multiply, Divide, Remain}
-use Rattle.pp_directives.specs.declared.symbol.Prefix.{Prefix}
-use Rattle.pp_directives.specs.declared.symbol.Prefix.TheVariants.{Plus, Minus, Complement, Not}
+use Rattle.pp_directives.specs.declared.expression.number.Number.{Number}
+use Rattle.pp_directives.specs.declared.expression.symbol.Symbol.{Symbol}
+use Rattle.pp_directives.specs.declared.expression.symbol.Symbol.TheVariants.{Constant, Operator, Tilde, Bang, Open, Close, Question, Colon}
+use Rattle.pp_directives.specs.declared.expression.symbol.Infix.{Infix}
+use Rattle.pp_directives.specs.declared.expression.symbol.Infix.TheVariants.{LogicalOr, LogicalAnd, Or, Xor, And, Equal, Unequal, Less, Greater, AtMost, AtLeast, ShiftLeft, ShiftRight, Add, Subtract, Multiply, Divide, Remain}
+use Rattle.pp_directives.specs.declared.expression.symbol.Prefix.{Prefix}
+use Rattle.pp_directives.specs.declared.expression.symbol.Prefix.TheVariants.{Plus, Minus, Complement, Not}
 
 -- A syntax tree. Parentheses leave no mark in it.
 pub data Tree : Type 0 where
@@ -27,7 +27,7 @@ prefix_of (Operator Add) = Some Plus
 prefix_of (Operator Subtract) = Some Minus
 prefix_of _ = None
 
--- The levels of the grammar. Conditional expressions (6.5.15) are at level 1, the operators between two operands at levels 2 to 11 (6.5.5 to 6.5.14), and what stands directly behind a prefix operator at level 12 (6.5.1, 6.5.3 and 6.5.4).
+-- The levels of the grammar. Conditional expressions (6.5.15) are at level 1, the operators between two operands at levels 2 to 11 (6.5.5 to 6.5.14), and what comes directly after a prefix operator at level 12 (6.5.1, 6.5.3 and 6.5.4).
 abbrev pub level_of : Infix → ℕ
 level_of LogicalOr = 2
 level_of LogicalAnd = 3
@@ -58,7 +58,7 @@ pub data IsExpr : ℕ → List Symbol → Tree → Type 0 where
   -- an operator between two operands; the left one may be of the same level (6.5.5 to 6.5.14)
   Infixed : {op : Infix} {left right : List Symbol} {a b : Tree} →
       IsExpr (level_of op) left a → IsExpr (suc (level_of op)) right b → IsExpr (level_of op) (left ++ Operator op ∷ right) (Binary op a b)
-  -- `?` and `:`; between them any expression, behind them again a conditional expression (6.5.15)
+  -- `?` and `:`; between them any expression, after them again a conditional expression (6.5.15)
   Chosen : {list middle right : List Symbol} {c a b : Tree} →
       IsExpr 2 list c → IsExpr 1 middle a → IsExpr 1 right b → IsExpr 1 (list ++ Question ∷ (middle ++ Colon ∷ right)) (Choice c a b)
   -- each expression of a level is one of the level before

@@ -7,7 +7,7 @@ use Rattle.pp_directives.specs.Structure.{IsFaultAt, IsOpenAtEnd}
 
 -- what lines of this kind do to a state, and the faults that end all
 pub record Ways (A S F : Type 0) : Type 1 where
-  -- the state behind a line that is only passed: it is a conditional directive, or stands in a group that is not taken
+  -- the state after a line that is only passed: it is a conditional directive, or is in a group that is not taken
   pub passes : A → S → S
   -- what a line of a taken group that is no conditional directive comes to
   pub Does : A → S → Result S F → Type 0
@@ -29,7 +29,7 @@ Chosen Taken Left true r = Taken r
 Chosen Taken Left false r = Left r
 
 module _ {A S F : Type 0} (ways : Ways A S F) where
-  -- the state behind lines that are only passed
+  -- the state after lines that are only passed
   abbrev pub passed_all : List (CondLine A) → S → S
   passed_all [] s = s
   passed_all (here ∷ lines) s = passed_all lines (ways.passes here.item s)
@@ -46,13 +46,13 @@ module _ {A S F : Type 0} (ways : Ways A S F) where
     -- what a taken group comes to
     pub Follows : Group A → S → Result S F → Type 0
     Follows Empty s r = r ≡ Ok s
-    Follows (Other here behind) s r = Then (ways.Does here s) (Follows behind) r
-    Follows (Section opening group tail behind) s r =
+    Follows (Other here after) s r = Then (ways.Does here s) (Follows after) r
+    Follows (Section opening group tail after) s r =
         Then
         (Decides opening
         (λ t. Then (Follows group t) (Passes (tail_lines tail)))
         (λ t. FollowsTail tail (passed_all (lines_of group) t)) s)
-        (Follows behind) r
+        (Follows after) r
 
     -- what the rest of an if-section comes to, of which no group was taken
     pub FollowsTail : Tail A → S → Result S F → Type 0
@@ -75,7 +75,7 @@ module _ {A S F : Type 0} (ways : Ways A S F) where
   -- what a file of these lines comes to: they have a tree, or a first line that is not legal, or a section is open at their end
   pub data FollowsFile (lines : List (CondLine A)) (s : S) (r : Result S F) : Type 0 where
     Whole : (tree : Group A) → Parses lines tree → Follows tree s r → FollowsFile lines s r
-    Broken : (before behind : List (CondLine A)) (here : CondLine A) (fault : StructFault) →
-        lines ≡ before ++ here ∷ behind → IsFaultAt (carried spot_of before) (line here.role (spot_of here.item)) fault →
+    Broken : (before after : List (CondLine A)) (here : CondLine A) (fault : StructFault) →
+        lines ≡ before ++ here ∷ after → IsFaultAt (carried spot_of before) (line here.role (spot_of here.item)) fault →
         FollowsBroken before s (ways.spot here.item) fault r → FollowsFile lines s r
     Unclosed : (number : ℕ) → IsOpenAtEnd (carried spot_of lines) number → FollowsBroken lines s number OpenIf r → FollowsFile lines s r

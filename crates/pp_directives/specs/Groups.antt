@@ -5,15 +5,15 @@ use Rattle.pp_directives.specs.declared.directive.Directive.TheVariants.{Text, N
 use Rattle.pp_directives.specs.declared.directive.Directive.TheVariants.{Elif as ElifDirective, Else as ElseDirective, Endif as EndifDirective}
 
 -- what a line does to the groups: nothing, or it is one of the conditional directives
-pub data Role : Type 0 where
-  OtherLine : Role
-  IfLine : Role
-  ElifLine : Role
-  ElseLine : Role
-  EndifLine : Role
+pub data LineRole : Type 0 where
+  OtherLine : LineRole
+  IfLine : LineRole
+  ElifLine : LineRole
+  ElseLine : LineRole
+  EndifLine : LineRole
 
 -- `#if`, `#ifdef` and `#ifndef` begin an if-section alike
-abbrev pub role_of : Directive → Role
+abbrev pub role_of : Directive → LineRole
 role_of Text = OtherLine
 role_of Null = OtherLine
 role_of If = IfLine
@@ -32,15 +32,15 @@ role_of Unknown = OtherLine
 
 -- a line of a file, as its groups see it: what it does to them, and what it is besides
 pub record CondLine (A : Type 0) : Type 0 where
-  pub role : Role
+  pub role : LineRole
   pub item : A
 
 mutual
   -- a group: lines that are no conditional directives, and if-sections, in any number. An if-section begins with `#if` and a group
   pub data Group (A : Type 0) : Type 0 where
     Empty : Group A
-    Other : (here : A) (behind : Group A) → Group A
-    Section : (opening : A) (group : Group A) (tail : Tail A) (behind : Group A) → Group A
+    Other : (here : A) (after : Group A) → Group A
+    Section : (opening : A) (group : Group A) (tail : Tail A) (after : Group A) → Group A
 
   -- the rest of an if-section: `#elif` and a group any number of times, `#else` and a group at most once, and `#endif`
   pub data Tail (A : Type 0) : Type 0 where
@@ -49,15 +49,15 @@ mutual
     Endif : (ending : A) → Tail A
 
 -- a line with this role
-abbrev pub line : {A : Type 0} → Role → A → CondLine A
+abbrev pub line : {A : Type 0} → LineRole → A → CondLine A
 line role item = record { role = role; item = item }
 
 abbrev mutual
   -- the lines of a group, in order
   pub lines_of : {A : Type 0} → Group A → List (CondLine A)
   lines_of Empty = []
-  lines_of (Other here behind) = line OtherLine here ∷ lines_of behind
-  lines_of (Section opening group tail behind) = line IfLine opening ∷ lines_of group ++ tail_lines tail ++ lines_of behind
+  lines_of (Other here after) = line OtherLine here ∷ lines_of after
+  lines_of (Section opening group tail after) = line IfLine opening ∷ lines_of group ++ tail_lines tail ++ lines_of after
 
   -- the lines of the rest of an if-section, in order
   pub tail_lines : {A : Type 0} → Tail A → List (CondLine A)

@@ -12,6 +12,6 @@ pub mod Numbers
 pub mod Constants
 pub mod Expressions
 pub mod Values
-pub mod Meanings
-pub mod Frames
+pub mod TypedValues
+pub mod OperandContexts
 pub mod ValueLaws

@@ -3,8 +3,8 @@ use Rattle.std.specs.Prelude.{ℕ, ◌+◌, ◌-◌, ◌*◌, ◌/◌, ◌%◌, 
 use Rattle.std.specs.Int.{w64, cast_signed, cast_unsigned}
 use Rattle.pp_directives.specs.declared.fault.ExprFault.{ExprFault}
 use Rattle.pp_directives.specs.declared.fault.ExprFault.TheVariants.{Overflow, ZeroDivisor, BadShift}
-use Rattle.pp_directives.specs.declared.number.Number.{Number}
-use Rattle.pp_directives.specs.declared.number.Number.TheVariants.{Signed, Unsigned}
+use Rattle.pp_directives.specs.declared.expression.number.Number.{Number}
+use Rattle.pp_directives.specs.declared.expression.number.Number.TheVariants.{Signed, Unsigned}
 
 -- what an operation gives: a number, or why there is none
 abbrev pub Computed : Type 0
@@ -78,7 +78,7 @@ divided divisor result = if is_zero divisor then Err ZeroDivisor else result
 abbrev pub quotient_of : Number → Number → Computed
 quotient_of a b = divided b (in_common_type (λ x y. signed (int_div x y)) (λ m n. Ok (Unsigned (m / n))) a b)
 
--- `%` has the sign of the dividend (6.5.5 p6); it always fits
+-- `%` has the sign of the dividend (6.5.5 p6); it always fits. The project's own: the least number `%` -1 is 0, which 6.5.5 p6 leaves undefined.
 abbrev pub remainder_of : Number → Number → Computed
 remainder_of a b = divided b (in_common_type (λ x y. Ok (Signed (int_rem x y))) (λ m n. Ok (Unsigned (m % n))) a b)
 
@@ -109,12 +109,12 @@ abbrev pub shifted_by : Option ℕ → (ℕ → Computed) → Computed
 shifted_by None f = Err BadShift
 shifted_by (Some places) f = f places
 
--- the product by the power of two, in the type of the left operand (6.5.7 p4)
+-- The product by the power of two, in the type of the left operand (6.5.7 p4). The project's own: also of a negative left operand, where 6.5.7 p4 leaves it undefined.
 abbrev pub times_power : Number → ℕ → Computed
 times_power (Signed z) places = signed (z *ℤ pos (2 ^ places))
 times_power (Unsigned n) places = unsigned (n * 2 ^ places)
 
--- the quotient by the power of two, rounded down, in the type of the left operand (6.5.7 p5)
+-- The quotient by the power of two, rounded down, in the type of the left operand (6.5.7 p5, which leaves that of a negative number to the implementation).
 abbrev pub over_power : Number → ℕ → Computed
 over_power (Signed (pos n)) places = Ok (Signed (pos (n / 2 ^ places)))
 over_power (Signed (negsuc n)) places = Ok (Signed (negsuc (n / 2 ^ places)))

@@ -2,14 +2,14 @@
 use Rattle.std.specs.Prelude.{◌≡◌, Bool, true, false, List, [], ◌∷◌, Result, Ok, Err}
 use Rattle.pp_directives.specs.declared.fault.StructFault.{StructFault}
 use Rattle.pp_directives.specs.declared.fault.StructFault.TheVariants.{OpenIf}
-use Rattle.pp_directives.specs.declared.open.Open.{Open}
-use Rattle.pp_directives.specs.Groups.{Role, OtherLine, IfLine, ElifLine, ElseLine, EndifLine, CondLine}
+use Rattle.pp_directives.specs.declared.conditional.open_section.OpenSection.{OpenSection}
+use Rattle.pp_directives.specs.Groups.{LineRole, OtherLine, IfLine, ElifLine, ElseLine, EndifLine, CondLine}
 use Rattle.pp_directives.specs.Conditions.{is_active, is_due, turned_by}
 use Rattle.pp_directives.specs.Following.{Ways, Then}
 
--- the sections that are pending in front of a line, and the state there
-pub record Stand (S : Type 0) : Type 0 where
-  pub pending : List Open
+-- the sections that are pending before a line, and the state there
+pub record RunState (S : Type 0) : Type 0 where
+  pub pending : List OpenSection
   pub state : S
 
 module _ {A S F : Type 0} (ways : Ways A S F) where
@@ -23,19 +23,19 @@ module _ {A S F : Type 0} (ways : Ways A S F) where
   Answers true here s r = ways.Asks here s r
   Answers false here s r = r ≡ Ok false
 
-  -- behind a conditional directive, which was turned or refused
-  abbrev pub behind_turn : A → S → Result (List Open) StructFault → Result (Stand S) F
-  behind_turn here s (Ok pending) = Ok (record { pending = pending; state = ways.passes here s })
-  behind_turn here s (Err fault) = Err (ways.breaks fault (ways.spot here))
+  -- after a conditional directive, which was turned or rejected
+  abbrev pub after_turn : A → S → Result (List OpenSection) StructFault → Result (RunState S) F
+  after_turn here s (Ok pending) = Ok (record { pending = pending; state = ways.passes here s })
+  after_turn here s (Err fault) = Err (ways.breaks fault (ways.spot here))
 
   -- a conditional directive is asked where that is due, then it is turned with the answer
-  abbrev pub Turns : Role → A → Stand S → Result (Stand S) F → Type 0
+  abbrev pub Turns : LineRole → A → RunState S → Result (RunState S) F → Type 0
   Turns role here at =
       Then (Answers (is_due role at.pending) here at.state)
-      (λ answer r. r ≡ behind_turn here at.state (turned_by role (record { number = ways.spot here; answer = answer }) at.pending))
+      (λ answer r. r ≡ after_turn here at.state (turned_by role (record { number = ways.spot here; answer = answer }) at.pending))
 
   -- one line of this role
-  abbrev pub Steps : Role → A → Stand S → Result (Stand S) F → Type 0
+  abbrev pub Steps : LineRole → A → RunState S → Result (RunState S) F → Type 0
   Steps OtherLine here at r = Then (Acts (is_active at.pending) here at.state) (λ t q. q ≡ Ok (record { pending = at.pending; state = t })) r
   Steps IfLine here at r = Turns IfLine here at r
   Steps ElifLine here at r = Turns ElifLine here at r
@@ -43,11 +43,11 @@ module _ {A S F : Type 0} (ways : Ways A S F) where
   Steps EndifLine here at r = Turns EndifLine here at r
 
   -- the end of the lines, where nothing may be pending
-  abbrev pub ended : List Open → S → Result S F
+  abbrev pub ended : List OpenSection → S → Result S F
   ended [] s = Ok s
   ended (innermost ∷ others) s = Err (ways.breaks OpenIf innermost.line)
 
   -- the lines one after another
-  abbrev pub Runs : List Open → List (CondLine A) → S → Result S F → Type 0
+  abbrev pub Runs : List OpenSection → List (CondLine A) → S → Result S F → Type 0
   Runs pending [] s r = r ≡ ended pending s
   Runs pending (here ∷ lines) s r = Then (Steps here.role here.item (record { pending = pending; state = s })) (λ at. Runs at.pending lines at.state) r

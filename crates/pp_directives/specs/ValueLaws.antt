@@ -3,8 +3,8 @@ use Rattle.std.specs.Prelude.{◌≡◌, Bool, true, false, List, Result, Ok, Er
 use Rattle.pp_tokens.specs.declared.token.Token.{Token}
 use Rattle.pp_directives.specs.declared.fault.ExprFault.{ExprFault}
 use Rattle.pp_directives.specs.declared.fault.ExprFault.TheVariants.{Syntax, Overflow, ZeroDivisor, BadShift, BadNumber, BadChar, DefinedFromMacro}
-use Rattle.pp_directives.specs.declared.number.Number.{Number}
-use Rattle.pp_directives.specs.declared.symbol.Symbol.{Symbol}
+use Rattle.pp_directives.specs.declared.expression.number.Number.{Number}
+use Rattle.pp_directives.specs.declared.expression.symbol.Symbol.{Symbol}
 use Rattle.pp_directives.specs.Numbers.{is_unsigned}
 use Rattle.pp_directives.specs.Expressions.{Tree, IsExpr}
 use Rattle.pp_directives.specs.Values.{type_of, value_of, condition_symbols, IsCondition}

@@ -1,4 +1,4 @@
--- What a condition comes to: the value of a syntax tree (C17 6.5, 6.6), and from there true, false or a fault for a list of tokens (6.10.1 p4).
+-- What a condition comes to: the value of a syntax tree (C17 6.5, 6.6), and from there true, false or a fault for a list of tokens (6.10.1 p3 and p4).
 use Rattle.std.specs.Prelude.{◌≡◌, ℕ, Bool, true, false, not, ◌||◌, if◌then◌else◌, List, [], ◌∷◌, Option, None, Some, Result, Ok, Err, bit_and, bit_or, bit_xor, pos}
 use Rattle.std.specs.List.{list_any}
 use lib.Chars.{codes}
@@ -9,14 +9,14 @@ use Rattle.pp_tokens.specs.declared.token.Kind.{Kind}
 use Rattle.pp_tokens.specs.declared.token.Kind.TheVariants.{Identifier, Number as NumberKind, Char, Punct}
 use Rattle.pp_directives.specs.declared.fault.ExprFault.{ExprFault}
 use Rattle.pp_directives.specs.declared.fault.ExprFault.TheVariants.{Syntax, BadNumber, BadChar, DefinedFromMacro}
-use Rattle.pp_directives.specs.declared.number.Number.{Number}
-use Rattle.pp_directives.specs.declared.number.Number.TheVariants.{Signed}
-use Rattle.pp_directives.specs.declared.symbol.Symbol.{Symbol}
-use Rattle.pp_directives.specs.declared.symbol.Symbol.TheVariants.{Constant, Operator, Tilde, Bang, Open, Close, Question, Colon, Other}
-use Rattle.pp_directives.specs.declared.symbol.Infix.{Infix}
-use Rattle.pp_directives.specs.declared.symbol.Infix.TheVariants.{LogicalOr, LogicalAnd, Or, Xor, And, Equal, Unequal, Less, Greater, AtMost, AtLeast, ShiftLeft, ShiftRight, Add, Subtract, Multiply, Divide, Remain}
-use Rattle.pp_directives.specs.declared.symbol.Prefix.{Prefix}
-use Rattle.pp_directives.specs.declared.symbol.Prefix.TheVariants.{Plus, Minus, Complement, Not}
+use Rattle.pp_directives.specs.declared.expression.number.Number.{Number}
+use Rattle.pp_directives.specs.declared.expression.number.Number.TheVariants.{Signed}
+use Rattle.pp_directives.specs.declared.expression.symbol.Symbol.{Symbol}
+use Rattle.pp_directives.specs.declared.expression.symbol.Symbol.TheVariants.{Constant, Operator, Tilde, Bang, Open, Close, Question, Colon, Other}
+use Rattle.pp_directives.specs.declared.expression.symbol.Infix.{Infix}
+use Rattle.pp_directives.specs.declared.expression.symbol.Infix.TheVariants.{LogicalOr, LogicalAnd, Or, Xor, And, Equal, Unequal, Less, Greater, AtMost, AtLeast, ShiftLeft, ShiftRight, Add, Subtract, Multiply, Divide, Remain}
+use Rattle.pp_directives.specs.declared.expression.symbol.Prefix.{Prefix}
+use Rattle.pp_directives.specs.declared.expression.symbol.Prefix.TheVariants.{Plus, Minus, Complement, Not}
 use Rattle.pp_directives.specs.Numbers.{Computed, is_unsigned, is_zero, converted, truth, sum_of, difference_of, product_of, quotient_of, remainder_of, bitwise, is_less, is_equal, left_shift_of, right_shift_of, negated, complement_of}
 use Rattle.pp_directives.specs.Constants.{number_of, character_of}
 use Rattle.pp_directives.specs.Expressions.{Tree, Leaf, Unary, Binary, Choice, IsExpr}
@@ -39,7 +39,7 @@ prefixed_type Not a = false
 abbrev pub truth_of : Computed → Computed
 truth_of b = b >>= λ y. truth (not (is_zero y))
 
--- An operator between operands, of which the left one has a value. The right one is evaluated behind it; behind `||` only where the left one is 0, and behind `&&` only where it isn't (6.5.13 p4, 6.5.14 p4).
+-- An operator between operands, of which the left one has a value. The right one is evaluated after it; after `||` only where the left one is 0, and after `&&` only where it isn't (6.5.13 p4, 6.5.14 p4).
 abbrev pub infixed : Infix → Number → Computed → Computed
 infixed LogicalOr x b = if is_zero x then truth_of b else truth true
 infixed LogicalAnd x b = if is_zero x then truth false else truth_of b
@@ -138,7 +138,7 @@ punctuator text =
     else (if same text (codes ":") then Colon
     else operator_of text)))))
 
--- the symbol of a token by its kind: each identifier is 0 (6.10.1 p4), and what is no number, character constant or operator stands in no expression
+-- the symbol of a token by its kind: each identifier is 0 (6.10.1 p4), and what is no number, character constant or operator is in no expression
 abbrev pub symbol_by : Kind → List ℕ → Result Symbol ExprFault
 symbol_by Identifier text = Ok (Constant (Signed (pos 0)))
 symbol_by NumberKind text = constant_or BadNumber (number_of text)
@@ -164,11 +164,11 @@ is_defined_by _ text = false
 abbrev pub is_defined : Token → Bool
 is_defined t = is_defined_by t.kind t.text
 
--- the symbols of a condition whose macros are expanded; a `defined` that is there came from a macro
+-- The symbols of a condition whose macros are expanded. A `defined` that is there came from a macro, which 6.10.1 p4 leaves undefined; to reject it is the project's own.
 abbrev pub condition_symbols : List Token → Result (List Symbol) ExprFault
 condition_symbols tokens = if list_any is_defined tokens then Err DefinedFromMacro else symbols_of tokens
 
--- a condition is true where its value isn't 0 (6.10.1 p5)
+-- a condition is true where its value isn't 0 (6.10.1 p3)
 abbrev pub holds : Computed → Result Bool ExprFault
 holds value = value >>= λ n. Ok (not (is_zero n))
 

@@ -3,7 +3,7 @@ ghost use Rattle.pp_tokens.specs.declared.token.Token.{Token as TokenValue};
 ghost use Rattle.pp_tokens.specs.Kinds.{same};
 ghost use Rattle.mac_base.specs.Answers.{Answers, IsFaultOf};
 ghost use Rattle.pp_directives.specs.declared.fault.ExprFault.TheVariants.{Syntax, NoMemory as RanOut};
-ghost use Rattle.pp_directives.specs.Defined.{is_built_in, is_defined, truth, before, resolved, behind_defined, behind_parenthesis};
+ghost use Rattle.pp_directives.specs.Defined.{is_built_in, is_defined, truth, before, resolved, after_defined, after_parenthesis};
 
 use crate::fault::ExprFault;
 use crate::spelled::{is_identifier, is_spelled, is_text};
@@ -12,18 +12,18 @@ use macro_table::Table;
 use pp_tokens::{Kind, Token, Tokens};
 use std::alloc::Global;
 
-/// A use of `defined`: its name, and the tokens behind it.
+/// A use of `defined`: its name, and the tokens after it.
 #[derive(Clone, Copy)]
 struct Use<'a> {
     name: &'a Token,
-    behind: &'a [Token],
+    after: &'a [Token],
 }
 
-/// The first of the tokens that come out, and those behind what it was made of.
+/// The first of the tokens that come out, and those after what it was made of.
 #[derive(Drop)]
 struct Piece<'a> {
     token: Token,
-    behind: &'a [Token],
+    after: &'a [Token],
 }
 
 /// Whether a name is defined as a macro (C17 6.10.1 p1). `__LINE__` and `__FILE__` always are (6.10.8.1).
@@ -54,11 +54,11 @@ fn truth(alloc: Global, defined: &Token, held: bool) -> Result<Token, NoMemory>
     })
 }
 
-/// The name that follows `(` and stands before `)`.
+/// The name between `(` and `)`.
 fn use_in_parentheses<'a>(tokens: &'a [Token]) -> Option<Use<'a>>
-    ensures some { IfSome result (λ found. (defined : List ℕ → Bool) (t : TokenValue) → behind_parenthesis defined t tokens.now ≡ before (truth t (defined found.name.now.text)) (resolved defined found.behind.now)) }
-    ensures none { IfNone result ((defined : List ℕ → Bool) (t : TokenValue) → behind_parenthesis defined t tokens.now ≡ Err Syntax) }
-    ensures less { IfSome result (λ found. length found.behind.now < length tokens.now) }
+    ensures some { IfSome result (λ found. (defined : List ℕ → Bool) (t : TokenValue) → after_parenthesis defined t tokens.now ≡ before (truth t (defined found.name.now.text)) (resolved defined found.after.now)) }
+    ensures none { IfNone result ((defined : List ℕ → Bool) (t : TokenValue) → after_parenthesis defined t tokens.now ≡ Err Syntax) }
+    ensures less { IfSome result (λ found. length found.after.now < length tokens.now) }
 {
     let [name, rest @ ..] = tokens else {
         return None;
@@ -67,20 +67,20 @@ fn use_in_parentheses<'a>(tokens: &'a [Token]) -> Option<Use<'a>>
         return None;
     }
     match rest {
-        [close, behind @ ..] if is_spelled(b")", close) => Some(Use { name, behind }),
+        [close, after @ ..] if is_spelled(b")", close) => Some(Use { name, after }),
         _ => None,
     }
 }
 
 /// The name that follows `defined`, alone or in parentheses, if one does.
 fn use_of<'a>(tokens: &'a [Token]) -> Option<Use<'a>>
-    ensures some { IfSome result (λ found. (defined : List ℕ → Bool) (t : TokenValue) → behind_defined defined t tokens.now ≡ before (truth t (defined found.name.now.text)) (resolved defined found.behind.now)) }
-    ensures none { IfNone result ((defined : List ℕ → Bool) (t : TokenValue) → behind_defined defined t tokens.now ≡ Err Syntax) }
-    ensures less { IfSome result (λ found. length found.behind.now < length tokens.now) }
+    ensures some { IfSome result (λ found. (defined : List ℕ → Bool) (t : TokenValue) → after_defined defined t tokens.now ≡ before (truth t (defined found.name.now.text)) (resolved defined found.after.now)) }
+    ensures none { IfNone result ((defined : List ℕ → Bool) (t : TokenValue) → after_defined defined t tokens.now ≡ Err Syntax) }
+    ensures less { IfSome result (λ found. length found.after.now < length tokens.now) }
 {
     match tokens {
-        [name, behind @ ..] if is_identifier(name) => Some(Use { name, behind }),
-        [open, behind @ ..] if is_spelled(b"(", open) => use_in_parentheses(behind),
+        [name, after @ ..] if is_identifier(name) => Some(Use { name, after }),
+        [open, after @ ..] if is_spelled(b"(", open) => use_in_parentheses(after),
         _ => None,
     }
 }
@@ -91,26 +91,26 @@ fn first_piece<'a>(
     table: &Table,
     tokens: &'a [Token],
 ) -> Result<Option<Piece<'a>>, ExprFault>
-    ensures ok { IfOk result (λ found. MatchOption found (resolved (is_defined table.now) tokens.now ≡ Ok []) (λ next. resolved (is_defined table.now) tokens.now ≡ before next.token (resolved (is_defined table.now) next.behind.now))) }
-    ensures less { IfOk result (λ found. IfSome found (λ next. length next.behind.now < length tokens.now)) }
+    ensures ok { IfOk result (λ found. MatchOption found (resolved (is_defined table.now) tokens.now ≡ Ok []) (λ next. resolved (is_defined table.now) tokens.now ≡ before next.token (resolved (is_defined table.now) next.after.now))) }
+    ensures less { IfOk result (λ found. IfSome found (λ next. length next.after.now < length tokens.now)) }
     ensures err { IfErr result (IsFaultOf RanOut (resolved (is_defined table.now) tokens.now)) }
 {
-    let Some((token, behind)) = tokens.split_first() else {
+    let Some((token, after)) = tokens.split_first() else {
         return Ok(None);
     };
     if !is_spelled(b"defined", token) {
         return Ok(Some(Piece {
             token: token.copy()?,
-            behind,
+            after,
         }));
     }
-    let Some(Use { name, behind }) = use_of(behind) else {
+    let Some(Use { name, after }) = use_of(after) else {
         return Err(ExprFault::Syntax);
     };
     let held = is_defined(table, name.text.as_slice());
     Ok(Some(Piece {
         token: truth(alloc, token, held)?,
-        behind,
+        after,
     }))
 }
 
@@ -122,15 +122,15 @@ pub fn resolve_defined(alloc: Global, tokens: &Tokens, table: &Table) -> Result<
     resolve_slice(alloc, tokens.as_slice(), table)
 }
 
-/// The same for tokens that stand in a longer list.
+/// The same for tokens that are part of a longer list.
 pub fn resolve_slice(alloc: Global, tokens: &[Token], table: &Table) -> Result<Tokens, ExprFault>
     ensures { Answers RanOut result (resolved (is_defined table.now) tokens.now) }
 {
     let mut done = Tokens::with_capacity(alloc, tokens.len())?;
     let mut left = tokens;
-    while let Some(Piece { token, behind }) = first_piece(alloc, table, left)? {
+    while let Some(Piece { token, after }) = first_piece(alloc, table, left)? {
         done.push(token)?;
-        left = behind;
+        left = after;
     }
     Ok(done)
 }

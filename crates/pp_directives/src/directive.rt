@@ -1,6 +1,6 @@
 use mac_base::Bytes;
 
-/// What a line of tokens is (C17 6.10). The operands of a directive are the tokens behind its name.
+/// What a line of tokens is (C17 6.10). The operands of a directive are the tokens after its name.
 #[derive(Debug, Drop)]
 pub enum Directive {
     /// No directive.

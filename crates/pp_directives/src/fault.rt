@@ -27,7 +27,7 @@ pub enum ExprFault {
     /// A character constant without a value.
     #[error("a bad character constant")]
     BadChar,
-    /// A `defined` that stands in a replacement.
+    /// A `defined` that comes from a replacement.
     #[error("defined in a replacement")]
     DefinedFromMacro,
     /// Memory ran out.
@@ -66,7 +66,7 @@ pub enum StructFault {
     /// A second `#else`.
     #[error("#else after #else")]
     ElseAfterElse,
-    /// `#elif` behind `#else`.
+    /// `#elif` after `#else`.
     #[error("#elif after #else")]
     ElifAfterElse,
     /// A condition that no `#endif` closes.

@@ -3,7 +3,7 @@ ghost use Rattle.pp_directives.specs.Following.{Ways};
 ghost use Rattle.pp_directives.specs.FollowingLaws.{LinesRunAsTheirTree};
 
 /// What `Conditions` keeps line by line is what the tree of the lines says (C17 6.10 p1, 6.10.1 p6): the first line that
-/// is refused, with its fault, what is open at the end, and in front of each line whether its group is taken and whether
+/// is rejected, with its fault, what is open at the end, and before each line whether its group is taken and whether
 /// its condition decides a group.
 pub fn conditions_follow_groups()
     ensures { ConditionsFollowGroups }

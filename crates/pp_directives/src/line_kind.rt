@@ -1,9 +1,9 @@
 ghost use Rattle.std.specs.Prelude.{◌≡◌, IfOk};
-ghost use Rattle.pp_directives.specs.Directives.{first_name, directive_named, directive_behind, directive_of};
+ghost use Rattle.pp_directives.specs.Directives.{first_name, directive_named, directive_after, directive_of};
 
 use crate::directive::Directive;
+use crate::directive_name::{DirectiveName, word_of};
 use crate::spelled::{is_hash, is_identifier};
-use crate::word::{Word, word_of};
 use mac_base::{Bytes, NoMemory};
 use pp_tokens::{Line, Token};
 
@@ -12,43 +12,43 @@ pub fn directive_of(line: &Line) -> Result<Directive, NoMemory>
     ensures { IfOk result (λ directive. directive ≡ directive_of line.now.tokens) }
 {
     match line.tokens.as_slice() {
-        [hash, behind @ ..] if is_hash(hash) => directive_behind(behind),
+        [hash, after @ ..] if is_hash(hash) => directive_after(after),
         _ => Ok(Directive::Text),
     }
 }
 
-/// The directive behind its `#`.
-fn directive_behind(tokens: &[Token]) -> Result<Directive, NoMemory>
-    ensures { IfOk result (λ directive. directive ≡ directive_behind tokens.now) }
+/// The directive after its `#`.
+fn directive_after(tokens: &[Token]) -> Result<Directive, NoMemory>
+    ensures { IfOk result (λ directive. directive ≡ directive_after tokens.now) }
 {
     match tokens {
-        [name, behind @ ..] => directive_named(word_of(name.text.as_slice()), behind),
+        [name, after @ ..] => directive_named(word_of(name.text.as_slice()), after),
         [] => Ok(Directive::Null),
     }
 }
 
 /// The directive of this name, before these tokens.
-fn directive_named(word: Word, behind: &[Token]) -> Result<Directive, NoMemory>
-    ensures { IfOk result (λ directive. directive ≡ directive_named word behind.now) }
+fn directive_named(word: DirectiveName, after: &[Token]) -> Result<Directive, NoMemory>
+    ensures { IfOk result (λ directive. directive ≡ directive_named word after.now) }
 {
     Ok(match word {
-        Word::If => Directive::If,
-        Word::Ifdef => Directive::Ifdef(first_name(behind)?),
-        Word::Ifndef => Directive::Ifndef(first_name(behind)?),
-        Word::Elif => Directive::Elif,
-        Word::Else => Directive::Else,
-        Word::Endif => Directive::Endif,
-        Word::Include => Directive::Include,
-        Word::Define => Directive::Define,
-        Word::Undef => Directive::Undef(first_name(behind)?),
-        Word::Line => Directive::LineNumber,
-        Word::Error => Directive::Error,
-        Word::Pragma => Directive::Pragma,
-        Word::Other => Directive::Unknown,
+        DirectiveName::If => Directive::If,
+        DirectiveName::Ifdef => Directive::Ifdef(first_name(after)?),
+        DirectiveName::Ifndef => Directive::Ifndef(first_name(after)?),
+        DirectiveName::Elif => Directive::Elif,
+        DirectiveName::Else => Directive::Else,
+        DirectiveName::Endif => Directive::Endif,
+        DirectiveName::Include => Directive::Include,
+        DirectiveName::Define => Directive::Define,
+        DirectiveName::Undef => Directive::Undef(first_name(after)?),
+        DirectiveName::Line => Directive::LineNumber,
+        DirectiveName::Error => Directive::Error,
+        DirectiveName::Pragma => Directive::Pragma,
+        DirectiveName::Other => Directive::Unknown,
     })
 }
 
-/// The identifier in front, if one stands there.
+/// The identifier that comes first, if one does.
 fn first_name(tokens: &[Token]) -> Result<Option<Bytes>, NoMemory>
     ensures { IfOk result (λ name. name ≡ first_name tokens.now) }
 {

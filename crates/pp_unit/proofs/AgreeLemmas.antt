@@ -15,14 +15,14 @@ use Rattle.pp_unit.specs.PreTables.{is_of, is_at, files_walked}
 use Rattle.pp_unit.proofs.Traces.{Trace, Done, Silent, Defines, Undefines, Includes, items_onto, size, mark, marks_onto, Rises, onto_append, onto_length, shift, no_shift, two_shifts, past, found, past_one, past_file as past_included}
 use Rattle.pp_unit.proofs.MarkLemmas.{same_self, below, only, included, other_lines, not_inside, Alike, ◌⨾◌, past_mark, past_file, past_lines, deeper, by_marks, gives_alike}
 
--- where a line or the end comes first, among the entries behind so many, and among the marks
+-- where a line or the end comes first, among the entries after so many, and among the marks
 record AtLine (c : List ℕ) (l e : ℕ) (items : List (Item ℕ)) (marks : List Mark) : Type 0 where
   count : ℕ
   line : Option ℕ
   inside : first_inside (ends_or_reaches l) items 0 ≡ Some count
   marked : find (is_at c l) marks ≡ Some (mark c line (e + count))
 
--- behind a line that is reached the first entry is, or the end
+-- after a line that is reached the first entry is, or the end
 reached_first : (t : Trace) (low l : ℕ) (items : List (Item ℕ)) → Rises low t → l ≤ low → first_inside (ends_or_reaches l) (items_onto t (End ∷ items)) 0 ≡ Some 0
 reached_first Done low l items rises near = refl
 reached_first (Silent n t) low l items rises near = reached_first t n l items rises.1 (let up = rises.0 in omega arith)
@@ -95,9 +95,9 @@ has_marks (Includes n path inner t) c e end marks =
     (list_any (is_of c) (marks_onto (c ++ n ∷ []) (suc e) inner (mark (c ++ n ∷ []) None (suc e + size inner) ∷ marks_onto c (suc (suc e + size inner)) t (mark c None end ∷ marks))))
     (same_self c)
 
--- what stands behind the entry that begins a file
-behind_is : (items front more : List (Item ℕ)) (s : ℕ) → items ≡ front ++ more → length front ≡ suc s → behind items s ≡ more
-behind_is items front more s is long =
+-- what comes after the entry that begins a file
+after_is : (items front more : List (Item ℕ)) (s : ℕ) → items ≡ front ++ more → length front ≡ suc s → behind items s ≡ more
+after_is items front more s is long =
     ap (λ (list : List (Item ℕ)). drop (s + 1) list) is
     ∙ ap (λ (k : ℕ). drop k (front ++ more)) (omega (arith, long))
     ∙ drop-append_seam front more
@@ -131,8 +131,8 @@ module _ {X : Type 0} (table : List (Item ℕ) → X) where
       by_items items lines depth (Some s) l ≡ by_marks (first items) (marks_onto c (suc s) t (mark c None end ∷ marks)) depth c lines l
 
   -- in all files below the one that this line of a file includes, of which the lines before were passed
-  abbrev pub Behind : Trace → Type 0
-  Behind t =
+  abbrev pub After : Trace → Type 0
+  After t =
       (items front more : List (Item ℕ)) (c : List ℕ) (n : ℕ) (lines : List ℕ) (l low e end depth : ℕ) (marks : List Mark) →
       items ≡ front ++ items_onto t (End ∷ more) → length front ≡ e → end ≡ e + size t → Rises low t → Alike (below (c ++ n ∷ [])) marks [] →
       by_items items lines depth (shift e (first_inside (starts_at n) (items_onto t (End ∷ more)) 0)) l
@@ -144,21 +144,21 @@ module _ {X : Type 0} (table : List (Item ℕ) → X) where
       by_items items [] depth (Some s) l ≡ by_marks (first items) marks depth c [] l
   here_agrees items front more c l s depth marks is long at =
       let inside : first_inside (ends_or_reaches l) (behind items s) 0 ≡ Some at.count =
-      ap (λ (list : List (Item ℕ)). first_inside (ends_or_reaches l) list 0) (behind_is items front more s is long) ∙ at.inside in
+      ap (λ (list : List (Item ℕ)). first_inside (ends_or_reaches l) list 0) (after_is items front more s is long) ∙ at.inside in
       let found : find (is_at (c ++ []) l) marks ≡ Some (mark c at.line (suc s + at.count)) = ap (λ (chain : List ℕ). find (is_at chain l) marks) (append-nil c) ∙ at.marked in
       ap (λ (o : Option ℕ). Ok (table (take (s + 1 + unwrap_or o (length items)) items))) inside
       ∙ ap (λ (n : ℕ). Ok (table (take n items))) (let k = at.count in omega arith)
       ∙ sym (ap (λ (o : Option Mark). ok_or (option_map (λ (found : Mark). first items found.events) o) (depth + files_walked marks c [])) found)
 
   -- a file, where those that its lines include agree
-  pub whole : (t : Trace) → Behind t → Whole t
+  pub whole : (t : Trace) → After t → Whole t
   whole t agrees items front more c [] l s end depth marks is long last rises alike =
       here_agrees items front (items_onto t (End ∷ more)) c l s depth (marks_onto c (suc s) t (mark c None end ∷ marks)) is long (at_line t c 0 l (suc s) end more marks rises last)
   whole t agrees items front more c (n ∷ lines) l s end depth marks is long last rises alike =
       let all = marks_onto c (suc s) t (mark c None end ∷ marks) in
       let level : option_map (λ k. s + 1 + k) (first_inside (starts_at n) (behind items s) 0) ≡ shift (suc s) (first_inside (starts_at n) (items_onto t (End ∷ more)) 0) =
       plus_one s (first_inside (starts_at n) (behind items s) 0)
-      ∙ ap (λ (list : List (Item ℕ)). shift (suc s) (first_inside (starts_at n) list 0)) (behind_is items front (items_onto t (End ∷ more)) s is long) in
+      ∙ ap (λ (list : List (Item ℕ)). shift (suc s) (first_inside (starts_at n) list 0)) (after_is items front (items_onto t (End ∷ more)) s is long) in
       ap (λ (start : Option ℕ). by_items items lines (depth + 1) start l) level
       ∙ agrees items front more c n lines l 0 (suc s) end (depth + 1) marks is long last rises (deeper c n marks [] alike)
       ∙ one_deeper all c n lines l depth (has_marks t c (suc s) end marks)
@@ -170,7 +170,7 @@ module _ {X : Type 0} (table : List (Item ℕ) → X) where
           omega arith ∙ ap (λ (k : ℕ). depth + k) (sym (λ i. cond (has i) (1 + files_walked all (c ++ n ∷ []) lines) 0)) in
           λ i. ok_or (option_map (λ (found : Mark). first items found.events) (find (is_at (append_assoc c (n ∷ []) lines i) l) all)) (walked i)
 
-  -- an entry more in front
+  -- one entry more at the front
   one_on : (items front : List (Item ℕ)) (item : Item ℕ) (more : List (Item ℕ)) → items ≡ front ++ item ∷ more → items ≡ (front ++ item ∷ []) ++ more
   one_on items front item more is = is ∙ sym (append_assoc front (item ∷ []) more)
 
@@ -206,7 +206,7 @@ module _ {X : Type 0} (table : List (Item ℕ) → X) where
   -- an inclusion in this line or in another
   by_line : (here : Bool) (inner t : Trace) (m path : ℕ) (items front more : List (Item ℕ)) (c : List ℕ) (n : ℕ) (lines : List ℕ) (l e end depth : ℕ) (marks : List Mark) →
       eqb m n ≡ here → items ≡ front ++ items_onto (Includes m path inner t) (End ∷ more) → length front ≡ e → end ≡ e + size (Includes m path inner t) → Rises 0 inner → Rises m t →
-      Alike (below (c ++ n ∷ [])) marks [] → Whole inner → Behind t →
+      Alike (below (c ++ n ∷ [])) marks [] → Whole inner → After t →
       by_items items lines depth (shift e (first_inside (starts_at n) (items_onto (Includes m path inner t) (End ∷ more)) 0)) l
       ≡ by_marks (first items) (marks_onto c e (Includes m path inner t) (mark c None end ∷ marks)) depth (c ++ n ∷ []) lines l
   by_line true inner t m path items front more c n lines l e end depth marks same is long last inner_rises rises alike agrees more_agree =
@@ -222,42 +222,42 @@ module _ {X : Type 0} (table : List (Item ℕ) → X) where
       agrees)
   by_line false inner t m path items front more c n lines l e end depth marks other is long last inner_rises rises alike agrees more_agree =
       let next = suc (suc e + size inner) in
-      let behind_marks = marks_onto c next t (mark c None end ∷ marks) in
+      let after_marks = marks_onto c next t (mark c None end ∷ marks) in
       let inside = c ++ m ∷ [] in
       let file : List (Item ℕ) = Start m path ∷ items_onto inner (End ∷ []) in
       passes items c n lines l (suc (suc (size inner))) e next depth (items_onto (Includes m path inner t) (End ∷ more)) (items_onto t (End ∷ more))
-      (marks_onto c e (Includes m path inner t) (mark c None end ∷ marks)) behind_marks (omega arith)
+      (marks_onto c e (Includes m path inner t) (mark c None end ∷ marks)) after_marks (omega arith)
       (past_included (starts_at n) m path inner (items_onto t (End ∷ more)) other)
-      (past_mark (below (c ++ n ∷ [])) (mark c (Some m) e) (marks_onto inside (suc e) inner (mark inside None (suc e + size inner) ∷ behind_marks)) (not_inside c n)
-      ⨾ past_file (below (c ++ n ∷ [])) inner inside (suc e) (suc e + size inner) behind_marks (other_lines c m n (eqb-false m n other)))
+      (past_mark (below (c ++ n ∷ [])) (mark c (Some m) e) (marks_onto inside (suc e) inner (mark inside None (suc e + size inner) ∷ after_marks)) (not_inside c n)
+      ⨾ past_file (below (c ++ n ∷ [])) inner inside (suc e) (suc e + size inner) after_marks (other_lines c m n (eqb-false m n other)))
       (more_agree items (front ++ file) more c n lines l m next end depth marks
       (is ∙ ap (λ (list : List (Item ℕ)). front ++ Start m path ∷ list) (onto_append inner (End ∷ []) (items_onto t (End ∷ more))) ∙ sym (append_assoc front file (items_onto t (End ∷ more))))
       (length-append front file ∙ (λ i. long i + suc (onto_length inner (End ∷ []) i)) ∙ omega arith)
       (last ∙ omega arith) rises alike)
 
   mutual
-    pub behind_all : (t : Trace) → Behind t
-    behind_all Done items front more c n lines l low e end depth marks is long last rises alike =
+    pub after_all : (t : Trace) → After t
+    after_all Done items front more c n lines l low e end depth marks is long last rises alike =
         ap (λ (r : Result ℕ ℕ). r >>= λ s. Ok (table (prefix items s l))) (no_level items lines depth)
         ∙ ap (λ (k : ℕ). Err k) (omega arith ∙ ap (λ (k : ℕ). depth + k) (sym (none_walked (c ++ n ∷ []) lines)))
         ∙ sym (gives_alike (first items) (mark c None end ∷ marks) [] depth (c ++ n ∷ []) lines l (past_mark (below (c ++ n ∷ [])) (mark c None end) marks (not_inside c n) ⨾ alike))
-    behind_all (Silent m t) items front more c n lines l low e end depth marks is long last rises alike =
-        behind_all t items front more c n lines l m e end depth marks is long last rises.1 alike
+    after_all (Silent m t) items front more c n lines l low e end depth marks is long last rises alike =
+        after_all t items front more c n lines l m e end depth marks is long last rises.1 alike
         ∙ sym (gives_alike (first items) (mark c (Some m) e ∷ marks_onto c e t (mark c None end ∷ marks)) (marks_onto c e t (mark c None end ∷ marks)) depth (c ++ n ∷ []) lines l
         (past_mark (below (c ++ n ∷ [])) (mark c (Some m) e) (marks_onto c e t (mark c None end ∷ marks)) (not_inside c n)))
-    behind_all (Defines m text t) items front more c n lines l low e end depth marks is long last rises alike =
-        let behind_marks = marks_onto c (suc e) t (mark c None end ∷ marks) in
-        passes items c n lines l 1 e (suc e) depth (items_onto (Defines m text t) (End ∷ more)) (items_onto t (End ∷ more)) (mark c (Some m) e ∷ behind_marks) behind_marks (omega arith)
+    after_all (Defines m text t) items front more c n lines l low e end depth marks is long last rises alike =
+        let after_marks = marks_onto c (suc e) t (mark c None end ∷ marks) in
+        passes items c n lines l 1 e (suc e) depth (items_onto (Defines m text t) (End ∷ more)) (items_onto t (End ∷ more)) (mark c (Some m) e ∷ after_marks) after_marks (omega arith)
         (past_one (starts_at n) (Define m text) (items_onto t (End ∷ more)) refl refl)
-        (past_mark (below (c ++ n ∷ [])) (mark c (Some m) e) behind_marks (not_inside c n))
-        (behind_all t items (front ++ Define m text ∷ []) more c n lines l m (suc e) end depth marks
+        (past_mark (below (c ++ n ∷ [])) (mark c (Some m) e) after_marks (not_inside c n))
+        (after_all t items (front ++ Define m text ∷ []) more c n lines l m (suc e) end depth marks
         (one_on items front (Define m text) (items_onto t (End ∷ more)) is) (one_longer front (Define m text) e long) (last ∙ omega arith) rises.1 alike)
-    behind_all (Undefines m name t) items front more c n lines l low e end depth marks is long last rises alike =
-        let behind_marks = marks_onto c (suc e) t (mark c None end ∷ marks) in
-        passes items c n lines l 1 e (suc e) depth (items_onto (Undefines m name t) (End ∷ more)) (items_onto t (End ∷ more)) (mark c (Some m) e ∷ behind_marks) behind_marks (omega arith)
+    after_all (Undefines m name t) items front more c n lines l low e end depth marks is long last rises alike =
+        let after_marks = marks_onto c (suc e) t (mark c None end ∷ marks) in
+        passes items c n lines l 1 e (suc e) depth (items_onto (Undefines m name t) (End ∷ more)) (items_onto t (End ∷ more)) (mark c (Some m) e ∷ after_marks) after_marks (omega arith)
         (past_one (starts_at n) (Undef m name) (items_onto t (End ∷ more)) refl refl)
-        (past_mark (below (c ++ n ∷ [])) (mark c (Some m) e) behind_marks (not_inside c n))
-        (behind_all t items (front ++ Undef m name ∷ []) more c n lines l m (suc e) end depth marks
+        (past_mark (below (c ++ n ∷ [])) (mark c (Some m) e) after_marks (not_inside c n))
+        (after_all t items (front ++ Undef m name ∷ []) more c n lines l m (suc e) end depth marks
         (one_on items front (Undef m name) (items_onto t (End ∷ more)) is) (one_longer front (Undef m name) e long) (last ∙ omega arith) rises.1 alike)
-    behind_all (Includes m path inner t) items front more c n lines l low e end depth marks is long last rises alike =
-        by_line (eqb m n) inner t m path items front more c n lines l e end depth marks refl is long last rises.1 rises.2 alike (whole inner (behind_all inner)) (behind_all t)
+    after_all (Includes m path inner t) items front more c n lines l low e end depth marks is long last rises alike =
+        by_line (eqb m n) inner t m path items front more c n lines l e end depth marks refl is long last rises.1 rises.2 alike (whole inner (after_all inner)) (after_all t)

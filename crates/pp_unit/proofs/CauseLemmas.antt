@@ -17,11 +17,11 @@ use Rattle.macro_expand.specs.declared.here.Here.{Here as HereValue}
 use Rattle.macro_expand.specs.Macros.{Macros}
 use Rattle.pp_directives.specs.declared.directive.Directive.{Directive}
 use Rattle.pp_directives.specs.declared.directive.Directive.TheVariants.{Text, Null, If, Ifdef, Ifndef, Elif, Else, Endif, Include, Define, Undef, LineNumber, Error, Pragma, Unknown}
-use Rattle.pp_directives.specs.declared.open.Open.{Open}
+use Rattle.pp_directives.specs.declared.conditional.open_section.OpenSection.{OpenSection}
 use Rattle.pp_directives.specs.Groups.{role_of}
 use Rattle.pp_directives.specs.Conditions.{is_due}
-use Rattle.pp_unit.specs.declared.within.Within.{Within}
-use Rattle.pp_unit.specs.declared.header.HeaderName.{HeaderName}
+use Rattle.pp_unit.specs.declared.open_file.OpenFile.{OpenFile}
+use Rattle.pp_unit.specs.declared.directives.header.HeaderName.{HeaderName}
 use Rattle.pp_unit.specs.declared.stop.Stop.{Stop}
 use Rattle.pp_unit.specs.declared.stop.Stop.TheVariants.{Here}
 use Rattle.pp_unit.specs.declared.fault.PpKind.{PpKind}
@@ -33,7 +33,7 @@ use Rattle.pp_unit.specs.LineNumbers.{Stands as LineStands, Fails as LineFails, 
 use Rattle.pp_unit.specs.HeaderNames.{NamesHeader, named, spelled_name, angle_named, before_angle, between, form_of}
 use Rattle.pp_unit.specs.LineNumbers.{is_plain_string}
 use Rattle.pp_unit.specs.HeaderNames.{Stands as NameStands, Fails as NameFails, Expands as NameExpands}
-use Rattle.pp_unit.specs.Questions.{HasValue, Unresolved, Unexpanded, Faulty, Decided, AnswersBy, operands, here_of}
+use Rattle.pp_unit.specs.LineConditions.{HasValue, Unresolved, Unexpanded, Faulty, Decided, AnswersBy, operands, here_of}
 use Rattle.pp_unit.specs.Lines.{undefined_by, Directs}
 use Rattle.pp_unit.specs.Recorded.{ComesTo}
 use Rattle.pp_unit.specs.Stopping.{stopped, StopFailed, Given, Turned}
@@ -121,22 +121,22 @@ by_same : {A : Type 0} (r q : Result A PpKind) → r ≡ q → IsPlain q → IsP
 by_same {A = A} r q is plain = subst (λ (s : Result A PpKind). IsPlain s) (sym is) plain
 
 -- lines that are neither inclusions nor conditional directives
-pub plain_directs : (within : Within) (here : Line) (directive : Directive) (seen : Seen) (r : Result Seen PpKind) → Directs within here directive seen r → IsPlain r
-plain_directs within here Text seen r h = by_same r _ h tt
-plain_directs within here Null seen r h = by_same r _ h tt
-plain_directs within here If seen r h = by_same r _ h tt
-plain_directs within here (Ifdef name) seen r h = by_same r _ h tt
-plain_directs within here (Ifndef name) seen r h = by_same r _ h tt
-plain_directs within here Elif seen r h = by_same r _ h tt
-plain_directs within here Else seen r h = by_same r _ h tt
-plain_directs within here Endif seen r h = by_same r _ h tt
-plain_directs within here Include seen r h = by_same r _ h tt
-plain_directs within here Define seen r h = by_same r _ h (plain_define seen here.number (def_of (operands here)))
-plain_directs within here (Undef name) seen r h = by_same r _ h (plain_undef seen here.number name)
-plain_directs within here LineNumber seen r h = plain_line (macros seen) (here_of within here) (operands here) seen r h
-plain_directs within here Error seen r h = by_same r _ h (λ e. cc)
-plain_directs within here Pragma seen r h = by_same r _ h tt
-plain_directs within here Unknown seen r h = by_same r _ h (λ e. cc)
+pub plain_directs : (open_file : OpenFile) (here : Line) (directive : Directive) (seen : Seen) (r : Result Seen PpKind) → Directs open_file here directive seen r → IsPlain r
+plain_directs open_file here Text seen r h = by_same r _ h tt
+plain_directs open_file here Null seen r h = by_same r _ h tt
+plain_directs open_file here If seen r h = by_same r _ h tt
+plain_directs open_file here (Ifdef name) seen r h = by_same r _ h tt
+plain_directs open_file here (Ifndef name) seen r h = by_same r _ h tt
+plain_directs open_file here Elif seen r h = by_same r _ h tt
+plain_directs open_file here Else seen r h = by_same r _ h tt
+plain_directs open_file here Endif seen r h = by_same r _ h tt
+plain_directs open_file here Include seen r h = by_same r _ h tt
+plain_directs open_file here Define seen r h = by_same r _ h (plain_define seen here.number (def_of (operands here)))
+plain_directs open_file here (Undef name) seen r h = by_same r _ h (plain_undef seen here.number name)
+plain_directs open_file here LineNumber seen r h = plain_line (macros seen) (here_of open_file here) (operands here) seen r h
+plain_directs open_file here Error seen r h = by_same r _ h (λ e. cc)
+plain_directs open_file here Pragma seen r h = by_same r _ h tt
+plain_directs open_file here Unknown seen r h = by_same r _ h (λ e. cc)
 
 plain_value : (seen : Seen) (here : HereValue) (tokens : List Token) (r : Result Bool PpKind) → HasValue seen here tokens r → IsPlain r
 plain_value seen here tokens _ (Unresolved is) = λ e. cc
@@ -144,35 +144,35 @@ plain_value seen here tokens _ (Unexpanded is h) = λ e. cc
 plain_value seen here tokens _ (Faulty is h v) = λ e. cc
 plain_value seen here tokens _ (Decided is h v) = tt
 
-plain_answer : (within : Within) (here : Line) (seen : Seen) (directive : Directive) (r : Result Bool PpKind) → AnswersBy within here seen directive r → IsPlain r
-plain_answer within here seen If r h = plain_value seen (here_of within here) (operands here) r h
-plain_answer within here seen Elif r h = plain_value seen (here_of within here) (operands here) r h
-plain_answer within here seen (Ifdef None) r h = by_same r _ h (λ e. cc)
-plain_answer within here seen (Ifdef (Some name)) r h = by_same r _ h tt
-plain_answer within here seen (Ifndef None) r h = by_same r _ h (λ e. cc)
-plain_answer within here seen (Ifndef (Some name)) r h = by_same r _ h tt
-plain_answer within here seen Text r h = by_same r _ h tt
-plain_answer within here seen Null r h = by_same r _ h tt
-plain_answer within here seen Else r h = by_same r _ h tt
-plain_answer within here seen Endif r h = by_same r _ h tt
-plain_answer within here seen Include r h = by_same r _ h tt
-plain_answer within here seen Define r h = by_same r _ h tt
-plain_answer within here seen (Undef name) r h = by_same r _ h tt
-plain_answer within here seen LineNumber r h = by_same r _ h tt
-plain_answer within here seen Error r h = by_same r _ h tt
-plain_answer within here seen Pragma r h = by_same r _ h tt
-plain_answer within here seen Unknown r h = by_same r _ h tt
+plain_answer : (open_file : OpenFile) (here : Line) (seen : Seen) (directive : Directive) (r : Result Bool PpKind) → AnswersBy open_file here seen directive r → IsPlain r
+plain_answer open_file here seen If r h = plain_value seen (here_of open_file here) (operands here) r h
+plain_answer open_file here seen Elif r h = plain_value seen (here_of open_file here) (operands here) r h
+plain_answer open_file here seen (Ifdef None) r h = by_same r _ h (λ e. cc)
+plain_answer open_file here seen (Ifdef (Some name)) r h = by_same r _ h tt
+plain_answer open_file here seen (Ifndef None) r h = by_same r _ h (λ e. cc)
+plain_answer open_file here seen (Ifndef (Some name)) r h = by_same r _ h tt
+plain_answer open_file here seen Text r h = by_same r _ h tt
+plain_answer open_file here seen Null r h = by_same r _ h tt
+plain_answer open_file here seen Else r h = by_same r _ h tt
+plain_answer open_file here seen Endif r h = by_same r _ h tt
+plain_answer open_file here seen Include r h = by_same r _ h tt
+plain_answer open_file here seen Define r h = by_same r _ h tt
+plain_answer open_file here seen (Undef name) r h = by_same r _ h tt
+plain_answer open_file here seen LineNumber r h = by_same r _ h tt
+plain_answer open_file here seen Error r h = by_same r _ h tt
+plain_answer open_file here seen Pragma r h = by_same r _ h tt
+plain_answer open_file here seen Unknown r h = by_same r _ h tt
 
-plain_given : (due : Bool) (within : Within) (here : Line) (seen : Seen) (directive : Directive) (r : Result Bool PpKind) → Given due (AnswersBy within here seen directive) r → IsPlain r
-plain_given true within here seen directive r h = plain_answer within here seen directive r h
-plain_given false within here seen directive r h = by_same r _ h tt
+plain_given : (due : Bool) (open_file : OpenFile) (here : Line) (seen : Seen) (directive : Directive) (r : Result Bool PpKind) → Given due (AnswersBy open_file here seen directive) r → IsPlain r
+plain_given true open_file here seen directive r h = plain_answer open_file here seen directive r h
+plain_given false open_file here seen directive r h = by_same r _ h tt
 
 -- conditional directives
-pub plain_turned : (within : Within) (here : Line) (seen : Seen) (directive : Directive) (old new : List Open) (r : Result (Unit {0}) PpKind) → Turned within here seen directive old new r → IsPlain r
-plain_turned within here seen directive old new (Ok x) h = tt
-plain_turned within here seen directive old new (Err kind) (inl out) = λ e. cc
-plain_turned within here seen directive old new (Err kind) (inr (inl given)) = plain_given (is_due (role_of directive) old) within here seen directive (Err kind) given
-plain_turned within here seen directive old new (Err kind) (inr (inr (answer, given, fault, is, turns))) = λ e. cc
+pub plain_turned : (open_file : OpenFile) (here : Line) (seen : Seen) (directive : Directive) (old new : List OpenSection) (r : Result (Unit {0}) PpKind) → Turned open_file here seen directive old new r → IsPlain r
+plain_turned open_file here seen directive old new (Ok x) h = tt
+plain_turned open_file here seen directive old new (Err kind) (inl out) = λ e. cc
+plain_turned open_file here seen directive old new (Err kind) (inr (inl given)) = plain_given (is_due (role_of directive) old) open_file here seen directive (Err kind) given
+plain_turned open_file here seen directive old new (Err kind) (inr (inr (answer, given, fault, is, turns))) = λ e. cc
 
 plain_named : (form : Form) (name : List ℕ) → IsPlain (named form name)
 plain_named form [] = λ e. cc

@@ -84,15 +84,15 @@ pub numbered_new : {K : Type 0} (name : K → List ℕ) (entries : List (K × �
     → AreNumbered (finite.from_entries (map (λ (e : K × ℕ). (name e.0, e.1)) (insert_entry (λ x y. slice_cmp nat_cmp (name x) (name y)) entries key number))) (paths ++ path ∷ [])
 numbered_new {K} name entries key number paths path named next new are =
     let before : finite.FinMap (slice_cmp nat_cmp) ℕ = finite.from_entries (map (λ (e : K × ℕ). (name e.0, e.1)) entries) in
-    let behind : finite.from_entries (map (λ (e : K × ℕ). (name e.0, e.1)) (insert_entry (λ x y. slice_cmp nat_cmp (name x) (name y)) entries key number)) ≡ finite.insert before path (length paths) =
+    let after : finite.from_entries (map (λ (e : K × ℕ). (name e.0, e.1)) (insert_entry (λ x y. slice_cmp nat_cmp (name x) (name y)) entries key number)) ≡ finite.insert before path (length paths) =
     inserted name (λ n. n) entries key number ∙ ap (λ (p : List ℕ). finite.insert before p number) named ∙ ap (finite.insert before path) next in
-    subst (λ (m : finite.FinMap (slice_cmp nat_cmp) ℕ). AreNumbered m (paths ++ path ∷ [])) (sym behind) (numbered_more before paths path are new)
+    subst (λ (m : finite.FinMap (slice_cmp nat_cmp) ℕ). AreNumbered m (paths ++ path ∷ [])) (sym after) (numbered_more before paths path are new)
 
 pub number_alone : (number : Option ℕ) → option_map (λ n. n) number ≡ number
 number_alone None = refl
 number_alone (Some number) = refl
 
--- nothing stands there
+-- nothing is there
 absent_by : (t : Bool) (n : ℕ) → cond t (Some n) None ≡ None → t ≡ false
 absent_by true n is = cc
 absent_by false n is = refl
@@ -115,7 +115,7 @@ none_known names (file ∷ files) id none named =
     neither (id.store == file.0) (same id.name (get_or names file.1 [])) (list_any (same_file id) (map (file_of names) files))
     (absent (same id.name) names file.1 [] none named.0) (none_known names files id none named.1)
 
--- a name stands at its number alone
+-- a name is at its number alone
 abbrev Different : List (List ℕ) → Type 0
 Different names = (number : ℕ) → number < length names → position (same (get_or names number [])) names ≡ Some number
 
@@ -143,7 +143,7 @@ pub has_some : (names : List (List ℕ)) (files : List (ℕ × ℕ)) (known : BT
     → contains pair_cmp known (id.store, n) ≡ list_any (same_file id) (map (file_of names) files)
 has_some names files known id n are there = are.found (id.store, n) ∙ sym (some_known names files id n are.different there are.named)
 
--- the name stands at its number behind it
+-- the name is at its number after it
 name_at : (names : List (List ℕ)) (name : List ℕ) (place : Option ℕ) → position (same name) names ≡ place → get_or (with_path names name place) (number_or (length names) place) [] ≡ name
 name_at names name None is = get_or-append_seam names name [] []
 name_at names name (Some n) is = sym (path_is name (get_or names n []) (position-Some (same name) names n [] is).1)
@@ -233,16 +233,16 @@ files_stay names name place (file ∷ files) named =
     let tail = files_stay names name place files named.1 in
     λ i. head i ∷ tail i
 
--- and it stands behind the others
+-- and it comes after the others
 pub files_more : (names all : List (List ℕ)) (files : List (ℕ × ℕ)) (known : BTreeSet (ℕ × ℕ)) (name : List ℕ) (id : FileId) (number : ℕ) → AreKnown names files known → name ≡ id.name
     → all ≡ with_path names name (position (same name) names) → number ≡ number_or (length names) (position (same name) names)
     → map (file_of all) (files ++ (id.store, number) ∷ []) ≡ map (file_of names) files ++ id ∷ []
 files_more names all files known name id number are named more is =
-    let behind : file_of all (id.store, number) ≡ id =
+    let after : file_of all (id.store, number) ≡ id =
     ap (λ (ns : List (List ℕ)). file_of ns (id.store, number)) more
     ∙ ap (λ (n : ℕ). file_of (with_path names name (position (same name) names)) (id.store, n)) is
     ∙ ap (λ (n : List ℕ). record { store = id.store; name = n }) (name_at names name (position (same name) names) refl ∙ named) in
     let before : map (file_of all) files ≡ map (file_of names) files =
     ap (λ (ns : List (List ℕ)). map (file_of ns) files) more ∙ files_stay names name (position (same name) names) files are.named in
     map-append (file_of all) files ((id.store, number) ∷ [])
-    ∙ (λ i. before i ++ behind i ∷ [])
+    ∙ (λ i. before i ++ after i ∷ [])

@@ -1,4 +1,4 @@
--- What the lines of a file leave, one in front of the others.
+-- What the lines of a file leave, one before the others.
 use Rattle.std.proofs.Common.{◌≡◌, ℕ, suc, ◌+◌, List, [], ◌∷◌, ◌++◌, length, Some, None, refl, sym, ap, ◌∙◌, append_assoc, length-append, arith}
 use Rattle.std.proofs.lemmas.List.{append-nil}
 use Rattle.pp_tokens.specs.declared.line.Line.{Line}
@@ -37,9 +37,9 @@ pub record FileLeaves (c : List ℕ) (m to : Marked) : Type 0 where
   pub marks : to.marks ≡ m.marks ++ marks_onto c (length m.seen.items) trace (mark c None (length m.seen.items + size trace) ∷ [])
   pub rises : Rises 0 trace
 
--- one list behind another behind a third
-behind_two : {A : Type 0} (a b c new rest : List A) → b ≡ a ++ new → c ≡ b ++ rest → c ≡ a ++ (new ++ rest)
-behind_two a b c new rest one two = two ∙ ap (λ (list : List _). list ++ rest) one ∙ append_assoc a new rest
+-- one list after another after a third
+after_two : {A : Type 0} (a b c new rest : List A) → b ≡ a ++ new → c ≡ b ++ rest → c ≡ a ++ (new ++ rest)
+after_two a b c new rest one two = two ∙ ap (λ (list : List _). list ++ rest) one ∙ append_assoc a new rest
 
 module _ (c : List ℕ) (to : Marked) (here : Line) (lines : List Line) (m next : Marked) where
   -- a line that leaves its mark alone
@@ -48,7 +48,7 @@ module _ (c : List ℕ) (to : Marked) (here : Line) (lines : List Line) (m next 
     trace = Silent here.number rest.trace;
     items = rest.items ∙ ap (λ (list : List (Item ℕ)). list ++ items_onto rest.trace []) same;
     marks =
-        behind_two m.marks next.marks to.marks (mark c (Some here.number) (length m.seen.items) ∷ []) (marks_onto c (length m.seen.items) rest.trace []) marks
+        after_two m.marks next.marks to.marks (mark c (Some here.number) (length m.seen.items) ∷ []) (marks_onto c (length m.seen.items) rest.trace []) marks
         (rest.marks ∙ ap (λ (list : List (Item ℕ)). next.marks ++ marks_onto c (length list) rest.trace []) same);
     covers = λ low up. (up.0, rest.covers here.number up.1);
   }
@@ -58,7 +58,7 @@ module _ (c : List ℕ) (to : Marked) (here : Line) (lines : List Line) (m next 
       to.marks ≡ next.marks ++ marks_onto c (length next.seen.items) t [] → to.marks ≡ m.marks ++ mark c (Some here.number) (length m.seen.items) ∷ marks_onto c (suc (length m.seen.items)) t []
   one_entry item t more marks rest =
       let long : length next.seen.items ≡ suc (length m.seen.items) = ap (λ (list : List (Item ℕ)). length list) more ∙ length-append m.seen.items (item ∷ []) ∙ omega arith in
-      behind_two m.marks next.marks to.marks (mark c (Some here.number) (length m.seen.items) ∷ []) (marks_onto c (suc (length m.seen.items)) t []) marks
+      after_two m.marks next.marks to.marks (mark c (Some here.number) (length m.seen.items) ∷ []) (marks_onto c (suc (length m.seen.items)) t []) marks
       (rest ∙ ap (λ (k : ℕ). next.marks ++ marks_onto c k t []) long)
 
   -- a definition
@@ -66,7 +66,7 @@ module _ (c : List ℕ) (to : Marked) (here : Line) (lines : List Line) (m next 
       Leaves c to lines next → Leaves c to (here ∷ lines) m
   defines text more marks rest = record {
     trace = Defines here.number text rest.trace;
-    items = behind_two m.seen.items next.seen.items to.seen.items (Define here.number text ∷ []) (items_onto rest.trace []) more rest.items;
+    items = after_two m.seen.items next.seen.items to.seen.items (Define here.number text ∷ []) (items_onto rest.trace []) more rest.items;
     marks = one_entry (Define here.number text) rest.trace more marks rest.marks;
     covers = λ low up. (up.0, rest.covers here.number up.1);
   }
@@ -76,7 +76,7 @@ module _ (c : List ℕ) (to : Marked) (here : Line) (lines : List Line) (m next 
       Leaves c to lines next → Leaves c to (here ∷ lines) m
   undefines name more marks rest = record {
     trace = Undefines here.number name rest.trace;
-    items = behind_two m.seen.items next.seen.items to.seen.items (Undef here.number name ∷ []) (items_onto rest.trace []) more rest.items;
+    items = after_two m.seen.items next.seen.items to.seen.items (Undef here.number name ∷ []) (items_onto rest.trace []) more rest.items;
     marks = one_entry (Undef here.number name) rest.trace more marks rest.marks;
     covers = λ low up. (up.0, rest.covers here.number up.1);
   }
@@ -99,10 +99,10 @@ module _ (c : List ℕ) (to : Marked) (here : Line) (lines : List Line) (m next 
       record {
         trace = Includes here.number path inner rest.trace;
         items =
-            behind_two m.seen.items next.seen.items to.seen.items (Start here.number path ∷ items_onto inner (End ∷ [])) (items_onto rest.trace []) more rest.items
+            after_two m.seen.items next.seen.items to.seen.items (Start here.number path ∷ items_onto inner (End ∷ [])) (items_onto rest.trace []) more rest.items
             ∙ ap (λ (list : List (Item ℕ)). m.seen.items ++ Start here.number path ∷ list) (sym (onto_append inner (End ∷ []) (items_onto rest.trace [])));
         marks =
-            behind_two m.marks next.marks to.marks (mark c (Some here.number) e ∷ marks_onto inside (suc e) inner (end ∷ [])) (marks_onto c (suc (suc e + size inner)) rest.trace []) marks
+            after_two m.marks next.marks to.marks (mark c (Some here.number) e ∷ marks_onto inside (suc e) inner (end ∷ [])) (marks_onto c (suc (suc e + size inner)) rest.trace []) marks
             (rest.marks ∙ ap (λ (k : ℕ). next.marks ++ marks_onto c k rest.trace []) long)
             ∙ ap (λ (list : List Mark). m.marks ++ mark c (Some here.number) e ∷ list) (sym (marks_append inner inside (suc e) (end ∷ []) (marks_onto c (suc (suc e + size inner)) rest.trace [])));
         covers = λ low up. (up.0, rises, rest.covers here.number up.1);
@@ -123,10 +123,10 @@ ends c lines m last to leaves up items marks =
     record {
       trace = t;
       items =
-          behind_two m.seen.items last.seen.items to.seen.items (items_onto t []) (End ∷ []) leaves.items items
+          after_two m.seen.items last.seen.items to.seen.items (items_onto t []) (End ∷ []) leaves.items items
           ∙ ap (λ (list : List (Item ℕ)). m.seen.items ++ list) (sym (onto_append t [] (End ∷ [])));
       marks =
-          behind_two m.marks last.marks to.marks (marks_onto c e t []) (mark c None (e + size t) ∷ []) leaves.marks
+          after_two m.marks last.marks to.marks (marks_onto c e t []) (mark c None (e + size t) ∷ []) leaves.marks
           (marks ∙ ap (λ (k : ℕ). last.marks ++ mark c None k ∷ []) long)
           ∙ ap (λ (list : List Mark). m.marks ++ list) (sym (marks_append t c e [] (mark c None (e + size t) ∷ [])));
       rises = leaves.covers 0 up;

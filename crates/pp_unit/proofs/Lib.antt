@@ -1,4 +1,4 @@
-pub mod RecordLemmas
+pub mod EventLogLemmas
 pub mod KnownLemmas
 pub mod KeptLemmas
 pub mod Traces
@@ -9,6 +9,7 @@ pub mod TreeTraces
 pub mod LineTraces
 pub mod FileTraces
 pub mod UnitTraces
+pub mod TableChangeLemmas
 pub mod OrderLemmas
 pub mod TableExamples
 pub mod LineLemmas

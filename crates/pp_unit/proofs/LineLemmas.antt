@@ -1,4 +1,4 @@
--- The number behind `#line` as it is read from left to right.
+-- The number after `#line` as it is read from left to right.
 use Rattle.std.proofs.Common.{◌≡◌, ℕ, ◌+◌, ◌-◌, ◌*◌, ◌≤◌, ◌<◌, Bool, true, false, ◌&&◌, nat_le, List, [], ◌∷◌, refl, ap, sym, ◌∙◌, subst, arith, length, drop, get_or, suc, cond, Ok, Err}
 use Rattle.std.specs.List.{list_all}
 use Rattle.std.proofs.lemmas.Bool.{lt-leb}
@@ -33,11 +33,11 @@ number_stops number bytes over =
 pub too_large : (text : List ℕ) (i number digit : ℕ) → i < length text → number_from number (drop i text) ≡ is_line_number text → digit ≡ get_or text i 0 - 48 →
     line_limit < 10 * number + digit → false ≡ is_line_number text
 too_large text i number digit short rest is over =
-    let behind : List ℕ = drop (suc i) text in
+    let after : List ℕ = drop (suc i) text in
     let byte : ℕ = get_or text i 0 in
     let more : line_limit < 10 * number + (byte - 48) = subst (λ d. line_limit < 10 * number + d) is over in
-    let large : line_limit < decimal_from (10 * number + (byte - 48)) behind = omega (arith, grows (10 * number + (byte - 48)) behind) in
-    sym (third_false (list_all is_digit (byte ∷ behind)) (nat_le 1 (decimal_from number (byte ∷ behind))) (nat_le (decimal_from number (byte ∷ behind)) line_limit) (lt-leb _ line_limit large))
+    let large : line_limit < decimal_from (10 * number + (byte - 48)) after = omega (arith, grows (10 * number + (byte - 48)) after) in
+    sym (third_false (list_all is_digit (byte ∷ after)) (nat_le 1 (decimal_from number (byte ∷ after))) (nat_le (decimal_from number (byte ∷ after)) line_limit) (lt-leb _ line_limit large))
     ∙ subst (λ (bytes : List ℕ). number_from number bytes ≡ is_line_number text) (drop-cons text i 0 short) rest
 
 checked_by : {A : Type 0} (x : A) (b : Bool) (tokens : List Token) → b ≡ is_line tokens → line_checked x tokens ≡ cond b (Ok x) (Err BadLine)

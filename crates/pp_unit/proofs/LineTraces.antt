@@ -14,7 +14,7 @@ use Rattle.mac_base.specs.Items.{Item, Define, Undef, Start, End}
 use Rattle.macro_expand.specs.declared.here.Here.{Here}
 use Rattle.macro_expand.specs.Macros.{Macros}
 use Rattle.pp_directives.specs.Following.{Goes}
-use Rattle.pp_unit.specs.declared.within.Within.{Within}
+use Rattle.pp_unit.specs.declared.open_file.OpenFile.{OpenFile}
 use Rattle.pp_unit.specs.declared.fault.PpFault.{PpFault}
 use Rattle.pp_unit.specs.declared.fault.PpKind.{PpKind}
 use Rattle.pp_unit.specs.declared.fault.PpKind.TheVariants.{Predefined, Redefined, TooManyEvents, TooMuchText, BadLine}
@@ -45,7 +45,7 @@ undefined_one seen next n name is =
     let free = guarded_not (is_predefined name) (added seen (Undef n name)) next (Predefined name) is in
     added_one seen next (Undef n name) free.1
 
--- what a line leaves, from the state behind its mark; an inclusion as the file that it opens
+-- what a line leaves, from the state after its mark; an inclusion as the file that it opens
 pub data Effect (c : List ℕ) (n : ℕ) (m next : Marked) : Type 0 where
   Nothing : next.seen.items ≡ m.seen.items → next.marks ≡ m.marks → Effect c n m next
   Definition : (text : List ℕ) → next.seen.items ≡ m.seen.items ++ Define n text ∷ [] → next.marks ≡ m.marks → Effect c n m next
@@ -59,25 +59,25 @@ pub record PartEnds (Gives : Result Seen PpKind → Type 0) (m next : Marked) : 
   pub gives : Gives (Ok seen)
   pub is : next ≡ with_seen m seen
 
-pub part_ends : (within : Within) (n : ℕ) (Gives : Result Seen PpKind → Type 0) (m next : Marked) → Part within n Gives m (Ok next) → PartEnds Gives m next
-part_ends within n Gives m next (Ok seen, gives, is) = record { seen = seen; gives = gives; is = same_ok {E = PpFault} next (with_seen m seen) is }
-part_ends within n Gives m next (Err kind, gives, is) = cc
+pub part_ends : (open_file : OpenFile) (n : ℕ) (Gives : Result Seen PpKind → Type 0) (m next : Marked) → Part open_file n Gives m (Ok next) → PartEnds Gives m next
+part_ends open_file n Gives m next (Ok seen, gives, is) = record { seen = seen; gives = gives; is = same_ok {E = PpFault} next (with_seen m seen) is }
+part_ends open_file n Gives m next (Err kind, gives, is) = cc
 
-module _ (within : Within) (c : List ℕ) (here : Line) (m next : Marked) where
+module _ (open_file : OpenFile) (c : List ℕ) (here : Line) (m next : Marked) where
   -- a part that leaves the entries as they are
   pub stays : (Gives : Result Seen PpKind → Type 0) → ((seen : Seen) → Gives (Ok seen) → seen.items ≡ m.seen.items) →
-      Part within here.number Gives m (Ok next) → Effect c here.number m next
+      Part open_file here.number Gives m (Ok next) → Effect c here.number m next
   stays Gives same part =
-      let end = part_ends within here.number Gives m next part in
+      let end = part_ends open_file here.number Gives m next part in
       Nothing (ap (λ (x : Marked). x.seen.items) end.is ∙ same end.seen end.gives) (ap (λ (x : Marked). x.marks) end.is)
 
   defined_text : (def : Result DefValue DefFault) (seen : Seen) → ◌≡◌ {A = Result Seen PpKind} (Ok seen) (defined_by m.seen here.number def) → (text : List ℕ) × (seen.items ≡ m.seen.items ++ Define here.number text ∷ [])
   defined_text (Ok def) seen is = (text_of def, defined_one m.seen seen here.number def (sym is))
   defined_text (Err fault) seen is = cc
 
-  pub does_define : (def : Result DefValue DefFault) → Part within here.number (λ answer. answer ≡ defined_by m.seen here.number def) m (Ok next) → Effect c here.number m next
+  pub does_define : (def : Result DefValue DefFault) → Part open_file here.number (λ answer. answer ≡ defined_by m.seen here.number def) m (Ok next) → Effect c here.number m next
   does_define def part =
-      let end = part_ends within here.number (λ answer. answer ≡ defined_by m.seen here.number def) m next part in
+      let end = part_ends open_file here.number (λ answer. answer ≡ defined_by m.seen here.number def) m next part in
       let one = defined_text def end.seen end.gives in
       Definition one.0 (ap (λ (x : Marked). x.seen.items) end.is ∙ one.1) (ap (λ (x : Marked). x.marks) end.is)
 
@@ -85,9 +85,9 @@ module _ (within : Within) (c : List ℕ) (here : Line) (m next : Marked) where
   removed_name (Some name) seen is = (name, undefined_one m.seen seen here.number name (sym is))
   removed_name None seen is = cc
 
-  pub does_undef : (name : Option (List ℕ)) → Part within here.number (λ answer. answer ≡ undefined_by m.seen here.number name) m (Ok next) → Effect c here.number m next
+  pub does_undef : (name : Option (List ℕ)) → Part open_file here.number (λ answer. answer ≡ undefined_by m.seen here.number name) m (Ok next) → Effect c here.number m next
   does_undef name part =
-      let end = part_ends within here.number (λ answer. answer ≡ undefined_by m.seen here.number name) m next part in
+      let end = part_ends open_file here.number (λ answer. answer ≡ undefined_by m.seen here.number name) m next part in
       let one = removed_name name end.seen end.gives in
       Removal one.0 (ap (λ (x : Marked). x.seen.items) end.is ∙ one.1) (ap (λ (x : Marked). x.marks) end.is)
 
@@ -106,10 +106,10 @@ line_stays macros place tokens seen _ (Fails fits expands) = tt
 line_stays macros place tokens seen _ (Expands {list = list} fits expands) = line_same seen (is_line list)
 
 -- a pragma leaves the entries as they are
-pub pragma_stays : (within : Within) (tokens : List Token) (seen : Seen) → (pragma_seen within tokens seen).items ≡ seen.items
-pragma_stays within tokens seen = by (is_once_pragma tokens)
+pub pragma_stays : (open_file : OpenFile) (tokens : List Token) (seen : Seen) → (pragma_seen open_file tokens seen).items ≡ seen.items
+pragma_stays open_file tokens seen = by (is_once_pragma tokens)
   where
-    by : (once : Bool) → (cond once (record seen { once = seen.once ++ within.id ∷ [] }) seen).items ≡ seen.items
+    by : (once : Bool) → (cond once (record seen { once = seen.once ++ open_file.id ∷ [] }) seen).items ≡ seen.items
     by true = refl
     by false = refl
 
@@ -129,9 +129,9 @@ inner_chain (first ∷ frames) frame one = map-append (λ (f : Frame). f.line) f
 
 -- the walks of files of some kind leave what files leave
 abbrev pub IsGood : FileWalk → Type 0
-IsGood Inner = (within : Within) (bytes : List ℕ) (m next : Marked) → IsOpen within.frames → Inner within bytes m (Ok next) → FileLeaves (chain_of within.frames) m next
+IsGood Inner = (open_file : OpenFile) (bytes : List ℕ) (m next : Marked) → IsOpen open_file.frames → Inner open_file bytes m (Ok next) → FileLeaves (chain_of open_file.frames) m next
 
-module _ (stores : Stores) (Inner : FileWalk) (good : IsGood Inner) (outer : Within) (n : ℕ) where
+module _ (stores : Stores) (Inner : FileWalk) (good : IsGood Inner) (outer : OpenFile) (n : ℕ) where
   -- a file that is entered
   pub record Entered (c : List ℕ) (m next : Marked) : Type 0 where
     pub path : ℕ
@@ -144,10 +144,10 @@ module _ (stores : Stores) (Inner : FileWalk) (good : IsGood Inner) (outer : Wit
       PartEnds (λ answer. answer ≡ started m.seen n (inside stores outer n id m.seen).path) m middle →
       FileLeaves (chain_of (inside stores outer n id m.seen).frames) middle next → Entered (chain_of (inside stores outer n id m.seen).frames) m next
   begins id bytes m middle next begin leaves =
-      let within = inside stores outer n id m.seen in
-      let c = chain_of within.frames in
-      let path = number_of m.seen within.path in
-      let named : Seen = record m.seen { files = with_path m.seen.files within.path (place_of m.seen within.path) } in
+      let open_file = inside stores outer n id m.seen in
+      let c = chain_of open_file.frames in
+      let path = number_of m.seen open_file.path in
+      let named : Seen = record m.seen { files = with_path m.seen.files open_file.path (place_of m.seen open_file.path) } in
       let first : middle.seen.items ≡ m.seen.items ++ Start n path ∷ [] = ap (λ (x : Marked). x.seen.items) begin.is ∙ added_one named begin.seen (Start n path) (sym begin.gives) in
       let long : length middle.seen.items ≡ suc (length m.seen.items) = ap (λ (list : List (Item ℕ)). length list) first ∙ length-append m.seen.items (Start n path ∷ []) ∙ omega arith in
       record {
@@ -162,7 +162,7 @@ module _ (stores : Stores) (Inner : FileWalk) (good : IsGood Inner) (outer : Wit
 
   pub enters : (id : FileId) (bytes : List ℕ) (m next : Marked) → Enters stores Inner outer n id bytes m (Ok next) → Entered (chain_of (inside stores outer n id m.seen).frames) m next
   enters id bytes m next (Goes {s = middle} begin walks) =
-      let within = inside stores outer n id m.seen in
+      let open_file = inside stores outer n id m.seen in
       begins id bytes m middle next
-      (part_ends outer n (λ answer. answer ≡ started m.seen n within.path) m middle begin)
-      (good within bytes middle next (is_open outer.frames (record { path = number_of m.seen within.path; line = n })) walks)
+      (part_ends outer n (λ answer. answer ≡ started m.seen n open_file.path) m middle begin)
+      (good open_file bytes middle next (is_open outer.frames (record { path = number_of m.seen open_file.path; line = n })) walks)

@@ -21,7 +21,7 @@ differs c d other = by (same c d) refl
     by true is = absurd (other (same_text c d is))
     by false is = sym is
 
--- all chains that begin with this front
+-- all chains that begin with this prefix
 abbrev pub below : List ℕ → List ℕ → List ℕ
 below front rest = front ++ rest
 
@@ -119,7 +119,7 @@ module _ (chains : List ℕ → List ℕ) where
   pub past_file : (inner : Trace) (d : List ℕ) (e end : ℕ) (marks : List Mark) → IsApart d chains → Alike chains (marks_onto d e inner (mark d None end ∷ marks)) marks
   past_file inner d e end marks apart = past_marks inner d e (mark d None end ∷ marks) apart ⨾ past_mark chains (mark d None end) marks (here_apart d chains apart)
 
--- behind a line of a file no line includes the same file again
+-- after a line of a file no line includes the same file again
 pub past_lines : (t : Trace) (c : List ℕ) (n low e : ℕ) (marks : List Mark) → n ≤ low → Rises low t → Alike (below (c ++ n ∷ [])) (marks_onto c e t marks) marks
 past_lines Done c n low e marks above rises = alike_self (below (c ++ n ∷ [])) marks
 past_lines (Silent m t) c n low e marks above rises =
@@ -143,7 +143,7 @@ as_many (n ∷ rest) front marks others s =
     let here : list_any (is_of front) marks ≡ list_any (is_of front) others = subst (λ chain. list_any (is_of chain) marks ≡ list_any (is_of chain) others) (append-nil front) (s.any []) in
     λ i. cond (here i) (1 + as_many rest (front ++ n ∷ []) marks others (deeper front n marks others s) i) 0
 
--- what the marks give at a line, from the file on that a front of the chain names, where so many files are around it
+-- what the marks give at a line, from the file on that a prefix of the chain names, where so many files are around it
 abbrev pub by_marks : {X : Type 0} → (ℕ → X) → List Mark → ℕ → List ℕ → List ℕ → ℕ → Result X ℕ
 by_marks table marks depth front rest l = ok_or (option_map (λ (found : Mark). table found.events) (find (is_at (below front rest) l) marks)) (depth + files_walked marks front rest)
 

@@ -1,17 +1,17 @@
 -- Lines that may come to more: a file of them comes to all that it came to.
 use Rattle.std.proofs.Common.{◌≡◌, Bool, true, false, List, [], ◌∷◌, Result, Ok, Err}
-use Rattle.pp_directives.specs.declared.open.Open.{Open}
-use Rattle.pp_directives.specs.Groups.{Role, OtherLine, IfLine, ElifLine, ElseLine, EndifLine, CondLine}
+use Rattle.pp_directives.specs.declared.conditional.open_section.OpenSection.{OpenSection}
+use Rattle.pp_directives.specs.Groups.{LineRole, OtherLine, IfLine, ElifLine, ElseLine, EndifLine, CondLine}
 use Rattle.pp_directives.specs.Conditions.{is_active}
 use Rattle.pp_directives.specs.Following.{Ways, Then, Stops, Goes, Chosen, FollowsFile}
-use Rattle.pp_directives.specs.Running.{Stand, Acts, Steps, Runs}
+use Rattle.pp_directives.specs.Running.{RunState, Acts, Steps, Runs}
 use Rattle.pp_directives.proofs.OneLemmas.{lines_run}
 
--- more may come first, and more behind it
+-- more may come first, and more after it
 pub then_more : {S T F : Type 0} (P Q : Result S F → Type 0) (N M : S → Result T F → Type 0) → ((r : Result S F) → P r → Q r) →
     ((s : S) (r : Result T F) → N s r → M s r) → (r : Result T F) → Then P N r → Then Q M r
 then_more P Q N M first next _ (Stops {fault = f} stop) = Stops (first (Err f) stop)
-then_more P Q N M first next _ (Goes {s = s} {r = r} go behind) = Goes (first (Ok s) go) (next s r behind)
+then_more P Q N M first next _ (Goes {s = s} {r = r} go after) = Goes (first (Ok s) go) (next s r after)
 
 -- the one, or more of the other
 pub chosen_more : {R : Type 0} (Taken Left More : R → Type 0) → ((r : R) → Left r → More r) → (t : Bool) (r : R) → Chosen Taken Left t r → Chosen Taken More t r
@@ -27,7 +27,7 @@ module _ {A S F : Type 0} (ways : Ways A S F) (Does : A → S → Result S F →
   acts_more true here s r acts = more here s r acts
   acts_more false here s r acts = acts
 
-  steps_more : (role : Role) (here : A) (at : Stand S) (r : Result (Stand S) F) → Steps ways role here at r → Steps wider role here at r
+  steps_more : (role : LineRole) (here : A) (at : RunState S) (r : Result (RunState S) F) → Steps ways role here at r → Steps wider role here at r
   steps_more OtherLine here at r steps =
       then_more (Acts ways (is_active at.pending) here at.state) (Acts wider (is_active at.pending) here at.state)
       (λ t q. q ≡ Ok (record { pending = at.pending; state = t })) (λ t q. q ≡ Ok (record { pending = at.pending; state = t }))
@@ -37,10 +37,10 @@ module _ {A S F : Type 0} (ways : Ways A S F) (Does : A → S → Result S F →
   steps_more ElseLine here at r steps = steps
   steps_more EndifLine here at r steps = steps
 
-  runs_more : (lines : List (CondLine A)) (p : List Open) (s : S) (r : Result S F) → Runs ways p lines s r → Runs wider p lines s r
+  runs_more : (lines : List (CondLine A)) (p : List OpenSection) (s : S) (r : Result S F) → Runs ways p lines s r → Runs wider p lines s r
   runs_more [] p s r runs = runs
   runs_more (here ∷ lines) p s r runs =
-      let at : Stand S = record { pending = p; state = s } in
+      let at : RunState S = record { pending = p; state = s } in
       then_more (Steps ways here.role here.item at) (Steps wider here.role here.item at)
       (λ next. Runs ways next.pending lines next.state) (λ next. Runs wider next.pending lines next.state)
       (steps_more here.role here.item at) (λ next. runs_more lines next.pending next.state) r runs

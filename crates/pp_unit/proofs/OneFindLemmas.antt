@@ -30,13 +30,13 @@ all_cons : {A : Type 0} (P : A → Type 0) (x : A) (xs : List A) → P x → All
 all_cons P x xs p ps zero d below = p
 all_cons P x xs p ps (suc k) d below = ps k d (omega (arith, below))
 
-all_behind : {A : Type 0} (P : A → Type 0) (x : A) (xs : List A) → All P (x ∷ xs) → All P xs
-all_behind P x xs ps k d below = ps (suc k) d (omega (arith, below))
+all_after : {A : Type 0} (P : A → Type 0) (x : A) (xs : List A) → All P (x ∷ xs) → All P xs
+all_after P x xs ps k d below = ps (suc k) d (omega (arith, below))
 
--- the element behind others
+-- the element after others
 all_at : {A : Type 0} (P : A → Type 0) (before after : List A) (x : A) → All P (before ++ x ∷ after) → P x
 all_at P [] after x ps = ps 0 x (omega arith)
-all_at P (y ∷ before) after x ps = all_at P before after x (all_behind P y (before ++ x ∷ after) ps)
+all_at P (y ∷ before) after x ps = all_at P before after x (all_after P y (before ++ x ∷ after) ps)
 
 -- a file that is reached is one of the candidates
 pub reached_told : (stores : Stores) (ids : List FileId) (id : FileId) → AreTold stores ids → IsReached stores ids id → IsTold stores id
@@ -47,12 +47,12 @@ reached_told stores ids id told (before, after, is, absent) = all_at (IsTold sto
 pub store_told : (stores : Stores) → TellFiles stores → (store : ℕ) (name : List ℕ) → store < length stores → IsTold stores (record { store = store; name = name })
 store_told stores tell store name below = tell.told store ([], None) below
 
-behind_told : (stores : Stores) → TellFiles stores → (name : List ℕ) (number n : ℕ) → number + n ≤ length stores →
+after_told : (stores : Stores) → TellFiles stores → (name : List ℕ) (number n : ℕ) → number + n ≤ length stores →
     AreTold stores (map (λ (store : ℕ). record { store = store; name = name }) (range_with_len number n))
-behind_told stores tell name number zero enough = All-nil (IsTold stores)
-behind_told stores tell name number (suc n) enough =
+after_told stores tell name number zero enough = All-nil (IsTold stores)
+after_told stores tell name number (suc n) enough =
     all_cons (IsTold stores) (record { store = number; name = name }) (map (λ (store : ℕ). record { store = store; name = name }) (range_with_len (number + 1) n))
-    (store_told stores tell number name (omega (arith, enough))) (behind_told stores tell name (number + 1) n (omega (arith, enough)))
+    (store_told stores tell number name (omega (arith, enough))) (after_told stores tell name (number + 1) n (omega (arith, enough)))
 
 beside_told : (stores : Stores) (includer : FileId) (form : Form) (name : List ℕ) → IsTold stores includer → AreTold stores (beside includer form name)
 beside_told stores includer Quote name told = all_one (IsTold stores) (record { store = includer.store; name = folder_of includer.name ++ name }) told
@@ -67,7 +67,7 @@ candidates_told stores includer form name tell told =
     by_test stores (is_absolute name) (record { store = 0; name = name } ∷ []) (beside includer form name ++ behind (length stores) name)
     (all_one (IsTold stores) (record { store = 0; name = name }) (store_told stores tell 0 name tell.some))
     (All-append (IsTold stores) (beside includer form name) (behind (length stores) name) (beside_told stores includer form name told)
-    (behind_told stores tell name 1 (length stores - 1) (omega (arith, tell.some))))
+    (after_told stores tell name 1 (length stores - 1) (omega (arith, tell.some))))
 
 -- Something is found.
 
@@ -91,4 +91,4 @@ found stores [] told = (Absent, [], tt, (All-nil (λ (other : FileId). IsFileAt 
 found stores (id ∷ ids) told =
     let here = told 0 id (omega arith) in
     by_file stores id ids (map_of.get here.0 id.name) (subst (λ (t : Option Files). IsFileAt t id.name (map_of.get here.0 id.name)) (sym here.1) refl)
-    (found stores ids (all_behind (IsTold stores) id ids told))
+    (found stores ids (all_after (IsTold stores) id ids told))

@@ -3,11 +3,11 @@ use Rattle.std.proofs.Common.{◌≡◌, ◌≢◌, ◌↔◌, ℕ, Bool, true, 
 use Rattle.mac_base.proofs.Choices.{same_ok}
 use Rattle.pp_directives.specs.declared.fault.StructFault.{StructFault}
 use Rattle.pp_directives.specs.declared.fault.StructFault.TheVariants.{ElseAfterElse, ElifAfterElse, OpenIf, NoMemory as StructRanOut}
-use Rattle.pp_directives.specs.declared.open.Open.{Open}
-use Rattle.pp_directives.specs.Groups.{Role, OtherLine, IfLine, ElifLine, ElseLine, EndifLine, CondLine, Spot}
-use Rattle.pp_directives.specs.Conditions.{is_active, is_due, behind_elif, behind_else, turned_by}
+use Rattle.pp_directives.specs.declared.conditional.open_section.OpenSection.{OpenSection}
+use Rattle.pp_directives.specs.Groups.{LineRole, OtherLine, IfLine, ElifLine, ElseLine, EndifLine, CondLine, Spot}
+use Rattle.pp_directives.specs.Conditions.{is_active, is_due, after_elif, after_else, turned_by}
 use Rattle.pp_directives.specs.Following.{Ways, Then, Stops, Goes, Chosen, FollowsFile}
-use Rattle.pp_directives.specs.Running.{Stand, Acts, Answers, behind_turn, Turns, Steps, ended, Runs}
+use Rattle.pp_directives.specs.Running.{RunState, Acts, Answers, after_turn, Turns, Steps, ended, Runs}
 use Rattle.pp_directives.proofs.ThenLemmas.{same_err}
 use Rattle.pp_directives.proofs.OneLemmas.{lines_run}
 
@@ -81,13 +81,13 @@ module _ {F : Type 0} (Weak Strong : F → Type 0) where
 abbrev pub PlainStruct : StructFault → Type 0
 PlainStruct fault = fault ≢ StructRanOut
 
-turned_plain : (role : Role) (spot : Spot) (pending : List Open) → Good PlainStruct (turned_by role spot pending)
+turned_plain : (role : LineRole) (spot : Spot) (pending : List OpenSection) → Good PlainStruct (turned_by role spot pending)
 turned_plain OtherLine spot pending = tt
 turned_plain IfLine spot pending = tt
 turned_plain ElifLine spot [] = λ e. cc
-turned_plain ElifLine spot (o ∷ others) = cond_good PlainStruct o.has_else (Err ElifAfterElse) (Ok (behind_elif spot.answer o ∷ others)) (λ e. cc) tt
+turned_plain ElifLine spot (o ∷ others) = cond_good PlainStruct o.has_else (Err ElifAfterElse) (Ok (after_elif spot.answer o ∷ others)) (λ e. cc) tt
 turned_plain ElseLine spot [] = λ e. cc
-turned_plain ElseLine spot (o ∷ others) = cond_good PlainStruct o.has_else (Err ElseAfterElse) (Ok (behind_else o ∷ others)) (λ e. cc) tt
+turned_plain ElseLine spot (o ∷ others) = cond_good PlainStruct o.has_else (Err ElseAfterElse) (Ok (after_else o ∷ others)) (λ e. cc) tt
 turned_plain EndifLine spot [] = λ e. cc
 turned_plain EndifLine spot (o ∷ others) = tt
 
@@ -102,17 +102,17 @@ module _ {A S F : Type 0} (Weak Strong : F → Type 0) (ways : Ways A S F) (does
   answers_one true here s = asks here s
   answers_one false here s = equal_one Weak Strong (Ok false) tt
 
-  turn_good : (here : A) (s : S) (t : Result (List Open) StructFault) → Good PlainStruct t → Good Strong (behind_turn ways here s t)
+  turn_good : (here : A) (s : S) (t : Result (List OpenSection) StructFault) → Good PlainStruct t → Good Strong (after_turn ways here s t)
   turn_good here s (Ok pending) plain = tt
   turn_good here s (Err fault) plain = breaks fault (ways.spot here) plain
 
-  turns_one : (role : Role) (here : A) (at : Stand S) → One Weak Strong (Turns ways role here at)
+  turns_one : (role : LineRole) (here : A) (at : RunState S) → One Weak Strong (Turns ways role here at)
   turns_one role here at =
-      then_one Weak Strong (Answers ways (is_due role at.pending) here at.state) (λ answer r. r ≡ behind_turn ways here at.state (turned_by role (record { number = ways.spot here; answer = answer }) at.pending))
+      then_one Weak Strong (Answers ways (is_due role at.pending) here at.state) (λ answer r. r ≡ after_turn ways here at.state (turned_by role (record { number = ways.spot here; answer = answer }) at.pending))
       (answers_one (is_due role at.pending) here at.state)
-      (λ answer. equal_one Weak Strong (behind_turn ways here at.state (turned_by role (record { number = ways.spot here; answer = answer }) at.pending)) (turn_good here at.state (turned_by role (record { number = ways.spot here; answer = answer }) at.pending) (turned_plain role (record { number = ways.spot here; answer = answer }) at.pending)))
+      (λ answer. equal_one Weak Strong (after_turn ways here at.state (turned_by role (record { number = ways.spot here; answer = answer }) at.pending)) (turn_good here at.state (turned_by role (record { number = ways.spot here; answer = answer }) at.pending) (turned_plain role (record { number = ways.spot here; answer = answer }) at.pending)))
 
-  steps_one : (role : Role) (here : A) (at : Stand S) → One Weak Strong (Steps ways role here at)
+  steps_one : (role : LineRole) (here : A) (at : RunState S) → One Weak Strong (Steps ways role here at)
   steps_one OtherLine here at =
       then_one Weak Strong (Acts ways (is_active at.pending) here at.state) (λ t q. q ≡ Ok (record { pending = at.pending; state = t }))
       (acts_one (is_active at.pending) here at.state) (λ t. equal_one Weak Strong (Ok (record { pending = at.pending; state = t })) tt)
@@ -121,11 +121,11 @@ module _ {A S F : Type 0} (Weak Strong : F → Type 0) (ways : Ways A S F) (does
   steps_one ElseLine here at = turns_one ElseLine here at
   steps_one EndifLine here at = turns_one EndifLine here at
 
-  end_good : (p : List Open) (s : S) → Good Strong (ended ways p s)
+  end_good : (p : List OpenSection) (s : S) → Good Strong (ended ways p s)
   end_good [] s = tt
   end_good (innermost ∷ others) s = breaks OpenIf innermost.line (λ e. cc)
 
-  runs_one : (lines : List (CondLine A)) (p : List Open) (s : S) → One Weak Strong (Runs ways p lines s)
+  runs_one : (lines : List (CondLine A)) (p : List OpenSection) (s : S) → One Weak Strong (Runs ways p lines s)
   runs_one [] p s = equal_one Weak Strong (ended ways p s) (end_good p s)
   runs_one (here ∷ lines) p s =
       then_one Weak Strong (Steps ways here.role here.item (record { pending = p; state = s })) (λ at. Runs ways at.pending lines at.state)

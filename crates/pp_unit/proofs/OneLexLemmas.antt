@@ -28,11 +28,11 @@ cut_by n rest page c cs enough None stands =
     inr (line_of (c ∷ cs), scans-err true page (c ∷ cs) page (c ∷ cs) page (c ∷ cs) (OpenComment (line_of (c ∷ cs))) (continues-none true page (c ∷ cs)) refl (stands, refl))
 cut_by n rest page c cs enough (Some piece) stands =
     let next = put page piece.0 (take piece.1 (c ∷ cs)) in
-    let behind = drop piece.1 (c ∷ cs) in
-    let takes : Takes true page (c ∷ cs) next behind = record { what = piece.0; count = piece.1; stands = stands; made = refl; rest = refl } in
-    let fewer = takes-smaller true page next (c ∷ cs) behind takes in
-    carried_on page (c ∷ cs) next behind (continues-more true page (c ∷ cs) page (c ∷ cs) next behind (continues-none true page (c ∷ cs)) takes)
-    (rest next behind (omega (arith, enough, fewer)))
+    let after = drop piece.1 (c ∷ cs) in
+    let takes : Takes true page (c ∷ cs) next after = record { what = piece.0; count = piece.1; stands = stands; made = refl; rest = refl } in
+    let fewer = takes-smaller true page next (c ∷ cs) after takes in
+    carried_on page (c ∷ cs) next after (continues-more true page (c ∷ cs) page (c ∷ cs) next after (continues-none true page (c ∷ cs)) takes)
+    (rest next after (omega (arith, enough, fewer)))
 
 cut : (n : ℕ) → CutWithin n
 cut n page [] enough = inl (page, makes-itself true page [] refl)

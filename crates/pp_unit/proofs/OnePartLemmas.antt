@@ -32,10 +32,10 @@ use Rattle.pp_directives.specs.Directives.{directive_of}
 use Rattle.pp_directives.specs.Defined.{is_defined, resolved}
 use Rattle.pp_directives.specs.Values.{IsCondition}
 use Rattle.pp_directives.proofs.AnswerLemmas.{an_answer, one_answer}
-use Rattle.pp_unit.specs.declared.within.Within.{Within}
-use Rattle.pp_unit.specs.declared.header.HeaderName.{HeaderName}
-use Rattle.pp_unit.specs.declared.spec.Command.{Command}
-use Rattle.pp_unit.specs.declared.spec.Command.TheVariants.{Define as DefineWord, Undef as UndefWord}
+use Rattle.pp_unit.specs.declared.open_file.OpenFile.{OpenFile}
+use Rattle.pp_unit.specs.declared.directives.header.HeaderName.{HeaderName}
+use Rattle.pp_unit.specs.declared.request.Command.{Command}
+use Rattle.pp_unit.specs.declared.request.Command.TheVariants.{Define as DefineWord, Undef as UndefWord}
 use Rattle.pp_unit.specs.declared.fault.PpFault.{PpFault}
 use Rattle.pp_unit.specs.declared.fault.PpKind.{PpKind}
 use Rattle.pp_unit.specs.declared.fault.PpKind.TheVariants.{StoreFault, Expr, Expand, BadInclude, BadLine, Predefined, Redefined, Def, TooManyEvents, TooMuchText, ErrorDirective, Directive as BadDirective}
@@ -45,7 +45,7 @@ use Rattle.pp_unit.specs.Seen.{Seen, Marked, table, macros, text_in, added, star
 use Rattle.pp_unit.specs.Definitions.{is_predefined, conflicts, defined, undefined, defined_by, defined_by_text, define_text, commanded, all_commanded}
 use Rattle.pp_unit.specs.LineNumbers.{is_line, line_checked, HasLine, Stands as LineStands, Fails as LineFails, Expands as LineExpands, is_plain_string}
 use Rattle.pp_unit.specs.HeaderNames.{between, form_of, named, header_text, before_angle, angle_named, spelled_name, NamesHeader, Stands, Fails, Expands as NameExpands}
-use Rattle.pp_unit.specs.Questions.{operands, here_of, HasValue, Unresolved, Unexpanded, Faulty, Decided, defined_answer, undefined_answer, AnswersBy, HasAnswer}
+use Rattle.pp_unit.specs.LineConditions.{operands, here_of, HasValue, Unresolved, Unexpanded, Faulty, Decided, defined_answer, undefined_answer, AnswersBy, HasAnswer}
 use Rattle.pp_unit.specs.Lines.{pragma_seen, undefined_by, Directs}
 use Rattle.pp_unit.specs.Files.{Part, keeping_marks}
 use Rattle.pp_unit.specs.WalkLaws.{IsPlain}
@@ -71,27 +71,27 @@ GoodKind r = Good Plain r
 
 -- Faults get a place.
 
-placed_good : {A : Type 0} (within : Within) (number : ℕ) (r : Result A PpKind) → GoodKind r → Good PlainFault (placed within number r)
-placed_good within number (Ok x) good = tt
-placed_good within number (Err kind) good = good
+placed_good : {A : Type 0} (open_file : OpenFile) (number : ℕ) (r : Result A PpKind) → GoodKind r → Good PlainFault (placed open_file number r)
+placed_good open_file number (Ok x) good = tt
+placed_good open_file number (Err kind) good = good
 
-placed_back : {A : Type 0} (within : Within) (number : ℕ) (r : Result A PpKind) → Good FreeFault (placed within number r) → Good Free r
-placed_back within number (Ok x) good = tt
-placed_back within number (Err kind) good = good
+placed_back : {A : Type 0} (open_file : OpenFile) (number : ℕ) (r : Result A PpKind) → Good FreeFault (placed open_file number r) → Good Free r
+placed_back open_file number (Ok x) good = tt
+placed_back open_file number (Err kind) good = good
 
-pub placed_one : {A : Type 0} (within : Within) (number : ℕ) (P : Result A PpKind → Type 0) → One Free Plain P → One FreeFault PlainFault (λ r. (answer : Result A PpKind) × P answer × (r ≡ placed within number answer))
-placed_one within number P one = mapped_one Free Plain FreeFault PlainFault P (placed within number) (placed_good within number) (placed_back within number) one
+pub placed_one : {A : Type 0} (open_file : OpenFile) (number : ℕ) (P : Result A PpKind → Type 0) → One Free Plain P → One FreeFault PlainFault (λ r. (answer : Result A PpKind) × P answer × (r ≡ placed open_file number answer))
+placed_one open_file number P one = mapped_one Free Plain FreeFault PlainFault P (placed open_file number) (placed_good open_file number) (placed_back open_file number) one
 
-pub kept_good : (within : Within) (number : ℕ) (m : Marked) (r : Result Seen PpKind) → GoodKind r → Good PlainFault (placed within number (keeping_marks m r))
-kept_good within number m (Ok x) good = tt
-kept_good within number m (Err kind) good = good
+pub kept_good : (open_file : OpenFile) (number : ℕ) (m : Marked) (r : Result Seen PpKind) → GoodKind r → Good PlainFault (placed open_file number (keeping_marks m r))
+kept_good open_file number m (Ok x) good = tt
+kept_good open_file number m (Err kind) good = good
 
-kept_back : (within : Within) (number : ℕ) (m : Marked) (r : Result Seen PpKind) → Good FreeFault (placed within number (keeping_marks m r)) → Good Free r
-kept_back within number m (Ok x) good = tt
-kept_back within number m (Err kind) good = good
+kept_back : (open_file : OpenFile) (number : ℕ) (m : Marked) (r : Result Seen PpKind) → Good FreeFault (placed open_file number (keeping_marks m r)) → Good Free r
+kept_back open_file number m (Ok x) good = tt
+kept_back open_file number m (Err kind) good = good
 
-pub part_one : (within : Within) (number : ℕ) (Gives : Result Seen PpKind → Type 0) (m : Marked) → One Free Plain Gives → One FreeFault PlainFault (Part within number Gives m)
-part_one within number Gives m one = mapped_one Free Plain FreeFault PlainFault Gives (λ r. placed within number (keeping_marks m r)) (kept_good within number m) (kept_back within number m) one
+pub part_one : (open_file : OpenFile) (number : ℕ) (Gives : Result Seen PpKind → Type 0) (m : Marked) → One Free Plain Gives → One FreeFault PlainFault (Part open_file number Gives m)
+part_one open_file number Gives m one = mapped_one Free Plain FreeFault PlainFault Gives (λ r. placed open_file number (keeping_marks m r)) (kept_good open_file number m) (kept_back open_file number m) one
 
 -- Events and definitions.
 
@@ -127,13 +127,13 @@ commanded_good : (seen : Seen) (command : Command) → GoodKind (commanded seen 
 commanded_good seen (DefineWord word) = let text = define_text word in by_text_good seen (def_of_text text) (faults_are_plain.lexing text) (faults_are_plain.defining text) (faults_are_plain.text text)
 commanded_good seen (UndefWord word) = cond_good Plain (is_identifier word) (undefined seen 0 word) (Err (Def DefNoName)) (undefined_good seen 0 word) (λ e. cc, λ e. cc)
 
-behind_good : (r : Result Seen PpKind) (f : Seen → Result Seen PpKind) → GoodKind r → ((seen : Seen) → GoodKind (f seen)) → GoodKind (r >>= f)
-behind_good (Ok seen) f good more = more seen
-behind_good (Err kind) f good more = good
+after_good : (r : Result Seen PpKind) (f : Seen → Result Seen PpKind) → GoodKind r → ((seen : Seen) → GoodKind (f seen)) → GoodKind (r >>= f)
+after_good (Ok seen) f good more = more seen
+after_good (Err kind) f good more = good
 
 pub all_commanded_good : (commands : List Command) (seen : Seen) → GoodKind (all_commanded seen commands)
 all_commanded_good [] seen = tt
-all_commanded_good (command ∷ commands) seen = behind_good (commanded seen command) (λ next. all_commanded next commands) (commanded_good seen command) (λ next. all_commanded_good commands next)
+all_commanded_good (command ∷ commands) seen = after_good (commanded seen command) (λ next. all_commanded next commands) (commanded_good seen command) (λ next. all_commanded_good commands next)
 
 -- Texts expand to one thing.
 
@@ -141,15 +141,15 @@ expands : (macros : Macros) (here : Here) (tokens : List Token) (answer : Result
 expands macros here = one_whole (Expands macros here) (expansion macros here) (complete macros here) (λ list work answer e. only macros here e)
 
 -- what an expansion comes to, by what follows one that succeeds
-abbrev behind_expansion : {A : Type 0} → (List Token → Result A PpKind) → Result (List Token) ExpandFault → Result A PpKind
-behind_expansion next (Ok list) = next list
-behind_expansion next (Err fault) = Err (Expand fault)
+abbrev after_expansion : {A : Type 0} → (List Token → Result A PpKind) → Result (List Token) ExpandFault → Result A PpKind
+after_expansion next (Ok list) = next list
+after_expansion next (Err fault) = Err (Expand fault)
 
-expansion_good : {A : Type 0} (next : List Token → Result A PpKind) (r : Result (List Token) ExpandFault) → Good PlainExpand r → ((list : List Token) → GoodKind (next list)) → GoodKind (behind_expansion next r)
+expansion_good : {A : Type 0} (next : List Token → Result A PpKind) (r : Result (List Token) ExpandFault) → Good PlainExpand r → ((list : List Token) → GoodKind (next list)) → GoodKind (after_expansion next r)
 expansion_good next (Ok list) plain good = good list
 expansion_good next (Err fault) plain good = (λ e. cc, plain)
 
-expanded_good : {A : Type 0} (macros : Macros) (here : Here) (tokens : List Token) (next : List Token → Result A PpKind) → ((list : List Token) → GoodKind (next list)) → GoodKind (behind_expansion next (whole (expansion macros here) tokens))
+expanded_good : {A : Type 0} (macros : Macros) (here : Here) (tokens : List Token) (next : List Token → Result A PpKind) → ((list : List Token) → GoodKind (next list)) → GoodKind (after_expansion next (whole (expansion macros here) tokens))
 expanded_good macros here tokens next good = let r = whole (expansion macros here) tokens in expansion_good next r (plain_text ((expands macros here tokens r).1 refl)) good
 
 -- Conditions.
@@ -167,7 +167,7 @@ module _ (seen : Seen) (here : Here) (tokens : List Token) where
   expanded_value list = condition_kind (an_answer list).0
 
   abbrev value : Result (List Token) ExprFault → Result Bool PpKind
-  value (Ok list) = behind_expansion expanded_value (whole (expansion (macros seen) here) list)
+  value (Ok list) = after_expansion expanded_value (whole (expansion (macros seen) here) list)
   value (Err fault) = Err (Expr fault)
 
   value_good : (r : Result (List Token) ExprFault) → Good PlainExpr r → GoodKind (value r)
@@ -178,23 +178,23 @@ module _ (seen : Seen) (here : Here) (tokens : List Token) where
   condition_value list expanded (Ok answer) is expands is_so = Decided is expands is_so
   condition_value list expanded (Err fault) is expands is_so = Faulty is expands is_so
 
-  behind_value : (list : List Token) (r : Result (List Token) ExpandFault) → resolved (is_defined (table seen)) tokens ≡ Ok list → whole (expansion (macros seen) here) list ≡ r → HasValue seen here tokens (behind_expansion expanded_value r)
-  behind_value list (Ok expanded) is so = condition_value list expanded (an_answer expanded).0 is ((expands (macros seen) here list (Ok expanded)).1 so) (an_answer expanded).1
-  behind_value list (Err fault) is so = Unexpanded is ((expands (macros seen) here list (Err fault)).1 so)
+  after_value : (list : List Token) (r : Result (List Token) ExpandFault) → resolved (is_defined (table seen)) tokens ≡ Ok list → whole (expansion (macros seen) here) list ≡ r → HasValue seen here tokens (after_expansion expanded_value r)
+  after_value list (Ok expanded) is so = condition_value list expanded (an_answer expanded).0 is ((expands (macros seen) here list (Ok expanded)).1 so) (an_answer expanded).1
+  after_value list (Err fault) is so = Unexpanded is ((expands (macros seen) here list (Err fault)).1 so)
 
   has_value : (r : Result (List Token) ExprFault) → resolved (is_defined (table seen)) tokens ≡ r → HasValue seen here tokens (value r)
-  has_value (Ok list) is = behind_value list (whole (expansion (macros seen) here) list) is refl
+  has_value (Ok list) is = after_value list (whole (expansion (macros seen) here) list) is refl
   has_value (Err fault) is = Unresolved is
 
   -- the condition of these tokens, that comes to this
   condition_only : (list expanded : List Token) (answer : Result Bool ExprFault) → resolved (is_defined (table seen)) tokens ≡ Ok list → ExpandsTo (macros seen) here list (Ok expanded) → IsCondition expanded answer →
       condition_kind answer ≡ value (resolved (is_defined (table seen)) tokens)
   condition_only list expanded answer is so also =
-      ap condition_kind (one_answer expanded answer (an_answer expanded).0 also (an_answer expanded).1) ∙ ap (behind_expansion expanded_value) (sym ((expands (macros seen) here list (Ok expanded)).0 so)) ∙ ap value (sym is)
+      ap condition_kind (one_answer expanded answer (an_answer expanded).0 also (an_answer expanded).1) ∙ ap (after_expansion expanded_value) (sym ((expands (macros seen) here list (Ok expanded)).0 so)) ∙ ap value (sym is)
 
   value_only : (r : Result Bool PpKind) → HasValue seen here tokens r → r ≡ value (resolved (is_defined (table seen)) tokens)
   value_only _ (Unresolved is) = ap value (sym is)
-  value_only _ (Unexpanded {list} {fault} is so) = ap (behind_expansion expanded_value) (sym ((expands (macros seen) here list (Err fault)).0 so)) ∙ ap value (sym is)
+  value_only _ (Unexpanded {list} {fault} is so) = ap (after_expansion expanded_value) (sym ((expands (macros seen) here list (Err fault)).0 so)) ∙ ap value (sym is)
   value_only _ (Faulty {list} {expanded} {fault} is so also) = condition_only list expanded (Err fault) is so also
   value_only _ (Decided {list} {expanded} {answer} is so also) = condition_only list expanded (Ok answer) is so also
 
@@ -214,26 +214,26 @@ undefined_answer_good : (seen : Seen) (name : Option (List ℕ)) → GoodKind (u
 undefined_answer_good seen None = (λ e. cc, tt)
 undefined_answer_good seen (Some name) = tt
 
-answers_one : (within : Within) (here : Line) (seen : Seen) (directive : Directive) → One Free Plain (AnswersBy within here seen directive)
-answers_one within here seen If = value_one seen (here_of within here) (operands here)
-answers_one within here seen Elif = value_one seen (here_of within here) (operands here)
-answers_one within here seen (Ifdef name) = equal_one Free Plain (defined_answer seen name) (defined_answer_good seen name)
-answers_one within here seen (Ifndef name) = equal_one Free Plain (undefined_answer seen name) (undefined_answer_good seen name)
-answers_one within here seen Text = equal_one Free Plain (Ok false) tt
-answers_one within here seen Null = equal_one Free Plain (Ok false) tt
-answers_one within here seen Else = equal_one Free Plain (Ok false) tt
-answers_one within here seen Endif = equal_one Free Plain (Ok false) tt
-answers_one within here seen Include = equal_one Free Plain (Ok false) tt
-answers_one within here seen DefineLine = equal_one Free Plain (Ok false) tt
-answers_one within here seen (UndefLine name) = equal_one Free Plain (Ok false) tt
-answers_one within here seen LineNumber = equal_one Free Plain (Ok false) tt
-answers_one within here seen Error = equal_one Free Plain (Ok false) tt
-answers_one within here seen Pragma = equal_one Free Plain (Ok false) tt
-answers_one within here seen Unknown = equal_one Free Plain (Ok false) tt
+answers_one : (open_file : OpenFile) (here : Line) (seen : Seen) (directive : Directive) → One Free Plain (AnswersBy open_file here seen directive)
+answers_one open_file here seen If = value_one seen (here_of open_file here) (operands here)
+answers_one open_file here seen Elif = value_one seen (here_of open_file here) (operands here)
+answers_one open_file here seen (Ifdef name) = equal_one Free Plain (defined_answer seen name) (defined_answer_good seen name)
+answers_one open_file here seen (Ifndef name) = equal_one Free Plain (undefined_answer seen name) (undefined_answer_good seen name)
+answers_one open_file here seen Text = equal_one Free Plain (Ok false) tt
+answers_one open_file here seen Null = equal_one Free Plain (Ok false) tt
+answers_one open_file here seen Else = equal_one Free Plain (Ok false) tt
+answers_one open_file here seen Endif = equal_one Free Plain (Ok false) tt
+answers_one open_file here seen Include = equal_one Free Plain (Ok false) tt
+answers_one open_file here seen DefineLine = equal_one Free Plain (Ok false) tt
+answers_one open_file here seen (UndefLine name) = equal_one Free Plain (Ok false) tt
+answers_one open_file here seen LineNumber = equal_one Free Plain (Ok false) tt
+answers_one open_file here seen Error = equal_one Free Plain (Ok false) tt
+answers_one open_file here seen Pragma = equal_one Free Plain (Ok false) tt
+answers_one open_file here seen Unknown = equal_one Free Plain (Ok false) tt
 
 -- the condition of a line
-pub question_one : (within : Within) (here : Line) (seen : Seen) → One Free Plain (HasAnswer within here seen)
-question_one within here seen = answers_one within here seen (directive_of here.tokens)
+pub question_one : (open_file : OpenFile) (here : Line) (seen : Seen) → One Free Plain (HasAnswer open_file here seen)
+question_one open_file here seen = answers_one open_file here seen (directive_of here.tokens)
 
 -- Header names.
 
@@ -253,13 +253,13 @@ spelled_good (t ∷ u ∷ ts) = cond_good Plain (is_spelled (codes "<") t) (angl
 module _ (macros : Macros) (here : Here) (tokens : List Token) where
   abbrev header : Option (List ℕ) → Result HeaderName PpKind
   header (Some text) = named (form_of text) (between text)
-  header None = behind_expansion spelled_name (whole (expansion macros here) tokens)
+  header None = after_expansion spelled_name (whole (expansion macros here) tokens)
 
   header_good : (o : Option (List ℕ)) → GoodKind (header o)
   header_good (Some text) = named_good (form_of text) (between text)
   header_good None = expanded_good macros here tokens spelled_name spelled_good
 
-  names_expanded : (r : Result (List Token) ExpandFault) → header_text tokens ≡ None → whole (expansion macros here) tokens ≡ r → NamesHeader macros here tokens (behind_expansion spelled_name r)
+  names_expanded : (r : Result (List Token) ExpandFault) → header_text tokens ≡ None → whole (expansion macros here) tokens ≡ r → NamesHeader macros here tokens (after_expansion spelled_name r)
   names_expanded (Ok list) none is = NameExpands none ((expands macros here tokens (Ok list)).1 is)
   names_expanded (Err fault) none is = Fails none ((expands macros here tokens (Err fault)).1 is)
 
@@ -269,8 +269,8 @@ module _ (macros : Macros) (here : Here) (tokens : List Token) where
 
   names_only : (r : Result HeaderName PpKind) → NamesHeader macros here tokens r → r ≡ header (header_text tokens)
   names_only _ (Stands is) = ap header (sym is)
-  names_only _ (Fails {fault} is so) = ap (behind_expansion spelled_name) (sym ((expands macros here tokens (Err fault)).0 so)) ∙ ap header (sym is)
-  names_only _ (NameExpands {list} is so) = ap (behind_expansion spelled_name) (sym ((expands macros here tokens (Ok list)).0 so)) ∙ ap header (sym is)
+  names_only _ (Fails {fault} is so) = ap (after_expansion spelled_name) (sym ((expands macros here tokens (Err fault)).0 so)) ∙ ap header (sym is)
+  names_only _ (NameExpands {list} is so) = ap (after_expansion spelled_name) (sym ((expands macros here tokens (Ok list)).0 so)) ∙ ap header (sym is)
 
   pub header_one : One Free Plain (NamesHeader macros here tokens)
   header_one = record {
@@ -291,13 +291,13 @@ module _ {A : Type 0} (macros : Macros) (here : Here) (tokens : List Token) (x :
 
   abbrev line_value : Bool → Result A PpKind
   line_value true = Ok x
-  line_value false = behind_expansion checked (whole (expansion macros here) tokens)
+  line_value false = after_expansion checked (whole (expansion macros here) tokens)
 
   line_good : (t : Bool) → GoodKind (line_value t)
   line_good true = tt
   line_good false = expanded_good macros here tokens checked checked_good
 
-  line_expanded : (r : Result (List Token) ExpandFault) → is_line tokens ≡ false → whole (expansion macros here) tokens ≡ r → HasLine macros here tokens x (behind_expansion checked r)
+  line_expanded : (r : Result (List Token) ExpandFault) → is_line tokens ≡ false → whole (expansion macros here) tokens ≡ r → HasLine macros here tokens x (after_expansion checked r)
   line_expanded (Ok list) none is = LineExpands none ((expands macros here tokens (Ok list)).1 is)
   line_expanded (Err fault) none is = LineFails none ((expands macros here tokens (Err fault)).1 is)
 
@@ -307,8 +307,8 @@ module _ {A : Type 0} (macros : Macros) (here : Here) (tokens : List Token) (x :
 
   line_only : (r : Result A PpKind) → HasLine macros here tokens x r → r ≡ line_value (is_line tokens)
   line_only _ (LineStands is) = ap line_value (sym is)
-  line_only _ (LineFails {fault} is so) = ap (behind_expansion checked) (sym ((expands macros here tokens (Err fault)).0 so)) ∙ ap line_value (sym is)
-  line_only _ (LineExpands {list} is so) = ap (behind_expansion checked) (sym ((expands macros here tokens (Ok list)).0 so)) ∙ ap line_value (sym is)
+  line_only _ (LineFails {fault} is so) = ap (after_expansion checked) (sym ((expands macros here tokens (Err fault)).0 so)) ∙ ap line_value (sym is)
+  line_only _ (LineExpands {list} is so) = ap (after_expansion checked) (sym ((expands macros here tokens (Ok list)).0 so)) ∙ ap line_value (sym is)
 
   line_one : One Free Plain (HasLine macros here tokens x)
   line_one = record {
@@ -324,19 +324,19 @@ undefined_by_good : (seen : Seen) (line : ℕ) (name : Option (List ℕ)) → Go
 undefined_by_good seen line None = (λ e. cc, tt)
 undefined_by_good seen line (Some name) = undefined_good seen line name
 
-pub directs_one : (within : Within) (here : Line) (directive : Directive) (seen : Seen) → One Free Plain (Directs within here directive seen)
-directs_one within here Text seen = equal_one Free Plain (Ok seen) tt
-directs_one within here Null seen = equal_one Free Plain (Ok seen) tt
-directs_one within here DefineLine seen = equal_one Free Plain (defined_by seen here.number (def_of (operands here))) (defined_by_good seen here.number (def_of (operands here)) (faults_are_plain.tokens (operands here)))
-directs_one within here (UndefLine name) seen = equal_one Free Plain (undefined_by seen here.number name) (undefined_by_good seen here.number name)
-directs_one within here LineNumber seen = line_one (macros seen) (here_of within here) (operands here) seen
-directs_one within here Error seen = equal_one Free Plain (Err ErrorDirective) (λ e. cc, tt)
-directs_one within here Pragma seen = equal_one Free Plain (Ok (pragma_seen within (operands here) seen)) tt
-directs_one within here Unknown seen = equal_one Free Plain (Err (BadDirective UnknownName)) (λ e. cc, tt)
-directs_one within here If seen = equal_one Free Plain (Ok seen) tt
-directs_one within here (Ifdef name) seen = equal_one Free Plain (Ok seen) tt
-directs_one within here (Ifndef name) seen = equal_one Free Plain (Ok seen) tt
-directs_one within here Elif seen = equal_one Free Plain (Ok seen) tt
-directs_one within here Else seen = equal_one Free Plain (Ok seen) tt
-directs_one within here Endif seen = equal_one Free Plain (Ok seen) tt
-directs_one within here Include seen = equal_one Free Plain (Ok seen) tt
+pub directs_one : (open_file : OpenFile) (here : Line) (directive : Directive) (seen : Seen) → One Free Plain (Directs open_file here directive seen)
+directs_one open_file here Text seen = equal_one Free Plain (Ok seen) tt
+directs_one open_file here Null seen = equal_one Free Plain (Ok seen) tt
+directs_one open_file here DefineLine seen = equal_one Free Plain (defined_by seen here.number (def_of (operands here))) (defined_by_good seen here.number (def_of (operands here)) (faults_are_plain.tokens (operands here)))
+directs_one open_file here (UndefLine name) seen = equal_one Free Plain (undefined_by seen here.number name) (undefined_by_good seen here.number name)
+directs_one open_file here LineNumber seen = line_one (macros seen) (here_of open_file here) (operands here) seen
+directs_one open_file here Error seen = equal_one Free Plain (Err ErrorDirective) (λ e. cc, tt)
+directs_one open_file here Pragma seen = equal_one Free Plain (Ok (pragma_seen open_file (operands here) seen)) tt
+directs_one open_file here Unknown seen = equal_one Free Plain (Err (BadDirective UnknownName)) (λ e. cc, tt)
+directs_one open_file here If seen = equal_one Free Plain (Ok seen) tt
+directs_one open_file here (Ifdef name) seen = equal_one Free Plain (Ok seen) tt
+directs_one open_file here (Ifndef name) seen = equal_one Free Plain (Ok seen) tt
+directs_one open_file here Elif seen = equal_one Free Plain (Ok seen) tt
+directs_one open_file here Else seen = equal_one Free Plain (Ok seen) tt
+directs_one open_file here Endif seen = equal_one Free Plain (Ok seen) tt
+directs_one open_file here Include seen = equal_one Free Plain (Ok seen) tt

@@ -21,7 +21,7 @@ use Rattle.macro_expand.specs.Rules.{HasHead, Empty, Kept, Line, File, Unknown, 
 use Rattle.pp_directives.specs.declared.fault.ExprFault.{ExprFault}
 use Rattle.pp_directives.specs.declared.fault.ExprFault.TheVariants.{Syntax, NoMemory as ExprRanOut}
 use Rattle.pp_directives.specs.Numbers.{Computed}
-use Rattle.pp_directives.specs.Defined.{truth, before, resolved, behind_defined, behind_parenthesis, behind_name}
+use Rattle.pp_directives.specs.Defined.{truth, before, resolved, after_defined, after_parenthesis, after_name}
 use Rattle.pp_directives.specs.Values.{value_of, holds, IsCondition, Refused, Unspelled, Spelled}
 use Rattle.pp_directives.specs.ValueLaws.{is_token_fault, is_value_fault}
 use Rattle.pp_directives.proofs.SymbolLemmas.{token_fault}
@@ -192,20 +192,20 @@ module _ (defined : List ℕ → Bool) where
     pub plain_resolved : (ts : List Token) → Good PlainExpr (resolved defined ts)
     plain_resolved [] = tt
     plain_resolved (t ∷ ts) =
-        cond_good PlainExpr (is_spelled (codes "defined") t) (behind_defined defined t ts) (before t (resolved defined ts)) (plain_defined t ts) (plain_before t (resolved defined ts) (plain_resolved ts))
+        cond_good PlainExpr (is_spelled (codes "defined") t) (after_defined defined t ts) (before t (resolved defined ts)) (plain_defined t ts) (plain_before t (resolved defined ts) (plain_resolved ts))
 
-    plain_defined : (t : Token) (ts : List Token) → Good PlainExpr (behind_defined defined t ts)
+    plain_defined : (t : Token) (ts : List Token) → Good PlainExpr (after_defined defined t ts)
     plain_defined t [] = λ e. cc
     plain_defined t (n ∷ ts) =
-        cond_good PlainExpr (is_identifier n) (before (truth t (defined n.text)) (resolved defined ts)) (cond (is_spelled (codes "(") n) (behind_parenthesis defined t ts) (Err Syntax))
+        cond_good PlainExpr (is_identifier n) (before (truth t (defined n.text)) (resolved defined ts)) (cond (is_spelled (codes "(") n) (after_parenthesis defined t ts) (Err Syntax))
         (plain_before (truth t (defined n.text)) (resolved defined ts) (plain_resolved ts))
-        (cond_good PlainExpr (is_spelled (codes "(") n) (behind_parenthesis defined t ts) (Err Syntax) (plain_parenthesis t ts) (λ e. cc))
+        (cond_good PlainExpr (is_spelled (codes "(") n) (after_parenthesis defined t ts) (Err Syntax) (plain_parenthesis t ts) (λ e. cc))
 
-    plain_parenthesis : (t : Token) (ts : List Token) → Good PlainExpr (behind_parenthesis defined t ts)
+    plain_parenthesis : (t : Token) (ts : List Token) → Good PlainExpr (after_parenthesis defined t ts)
     plain_parenthesis t [] = λ e. cc
-    plain_parenthesis t (n ∷ ts) = cond_good PlainExpr (is_identifier n) (behind_name defined t n ts) (Err Syntax) (plain_name t n ts) (λ e. cc)
+    plain_parenthesis t (n ∷ ts) = cond_good PlainExpr (is_identifier n) (after_name defined t n ts) (Err Syntax) (plain_name t n ts) (λ e. cc)
 
-    plain_name : (t n : Token) (ts : List Token) → Good PlainExpr (behind_name defined t n ts)
+    plain_name : (t n : Token) (ts : List Token) → Good PlainExpr (after_name defined t n ts)
     plain_name t n [] = λ e. cc
     plain_name t n (c ∷ ts) =
         cond_good PlainExpr (is_spelled (codes ")") c) (before (truth t (defined n.text)) (resolved defined ts)) (Err Syntax) (plain_before (truth t (defined n.text)) (resolved defined ts) (plain_resolved ts)) (λ e. cc)

@@ -1,4 +1,4 @@
--- The walk of a unit over stores that tell their files has one answer on the files.
+-- The walk of a translation unit over stores that tell their files has one answer on the files.
 use Rattle.std.proofs.Common.{◌≡◌, ℕ, zero, suc, List, [], ◌∷◌, length, Result, Ok, Err, refl, sym, ap, ◌∙◌, subst, None, Some}
 use Rattle.mac_io.specs.Search.{Finds, candidates}
 use Rattle.mac_io.specs.SearchLaws.{AreTold}
@@ -18,9 +18,9 @@ use Rattle.pp_directives.specs.declared.directive.Directive.TheVariants.{Text, N
 use Rattle.pp_directives.specs.Directives.{directive_of}
 use Rattle.pp_directives.specs.Following.{Then, FollowsFile}
 use Rattle.pp_directives.proofs.ThenLemmas.{same_err}
-use Rattle.pp_unit.specs.declared.within.Within.{Within}
-use Rattle.pp_unit.specs.declared.header.HeaderName.{HeaderName}
-use Rattle.pp_unit.specs.declared.spec.UnitSpec.{UnitSpec}
+use Rattle.pp_unit.specs.declared.open_file.OpenFile.{OpenFile}
+use Rattle.pp_unit.specs.declared.directives.header.HeaderName.{HeaderName}
+use Rattle.pp_unit.specs.declared.request.UnitSpec.{UnitSpec}
 use Rattle.pp_unit.specs.declared.fault.PpFault.{PpFault}
 use Rattle.pp_unit.specs.declared.fault.PpKind.{PpKind}
 use Rattle.pp_unit.specs.declared.fault.PpKind.TheVariants.{Lex, Def, Expr, Expand, Struct, NoMemory, Predefined, Redefined, NoSuchFile, BadInclude, IncludeDepth, ErrorDirective, BadLine, SourceTooLong, TooManyEvents, TooMuchText, StoreFault, Directive as BadDirective}
@@ -28,7 +28,7 @@ use Rattle.pp_unit.specs.Kinds.{fault_at, placed}
 use Rattle.pp_unit.specs.Seen.{Marked, added, started, is_once, macros, marked}
 use Rattle.pp_unit.specs.Definitions.{all_commanded, predefined}
 use Rattle.pp_unit.specs.HeaderNames.{NamesHeader}
-use Rattle.pp_unit.specs.Questions.{operands, here_of, HasAnswer}
+use Rattle.pp_unit.specs.LineConditions.{operands, here_of, HasAnswer}
 use Rattle.pp_unit.specs.Lines.{Directs}
 use Rattle.pp_unit.specs.Files.{Stores, FileWalk, Part, inside, Enters, IncludesFound, Includes, IncludesHeader, DoesInclude, DoesBy, ways, with_roles, last_number, ended, fault_line, WalksBytes, Unlexed, Followed, Walks}
 use Rattle.pp_unit.specs.Walk.{open_limit, outside, Walk}
@@ -45,20 +45,20 @@ Walked P = One FreeFault PlainFault P
 module _ (stores : Stores) (tell : TellFiles stores) where
   -- the walk of each file in a store that tells
   abbrev IsOneWalk : FileWalk → Type 0
-  IsOneWalk Inner = (within : Within) → IsTold stores within.id → (bytes : List ℕ) (m : Marked) → Walked (Inner within bytes m)
+  IsOneWalk Inner = (open_file : OpenFile) → IsTold stores open_file.id → (bytes : List ℕ) (m : Marked) → Walked (Inner open_file bytes m)
 
   -- the same, where at least one file may still be opened
   abbrev IsOneWithin : ℕ → FileWalk → Type 0
   IsOneWithin zero Inner = Unit {0}
   IsOneWithin (suc left) Inner = IsOneWalk Inner
 
-  module _ (Inner : FileWalk) (inner : IsOneWalk Inner) (outer : Within) (number : ℕ) where
+  module _ (Inner : FileWalk) (inner : IsOneWalk Inner) (outer : OpenFile) (number : ℕ) where
     enters_one : (id : FileId) (bytes : List ℕ) (m : Marked) → IsTold stores id → Walked (Enters stores Inner outer number id bytes m)
     enters_one id bytes m told =
-        let within = inside stores outer number id m.seen in
-        then_one FreeFault PlainFault (Part outer number (λ answer. answer ≡ started m.seen number within.path) m) (Inner within bytes)
-        (part_one outer number (λ answer. answer ≡ started m.seen number within.path) m (equal_one Free Plain (started m.seen number within.path) (started_good m.seen number within.path)))
-        (inner within told bytes)
+        let open_file = inside stores outer number id m.seen in
+        then_one FreeFault PlainFault (Part outer number (λ answer. answer ≡ started m.seen number open_file.path) m) (Inner open_file bytes)
+        (part_one outer number (λ answer. answer ≡ started m.seen number open_file.path) m (equal_one Free Plain (started m.seen number open_file.path) (started_good m.seen number open_file.path)))
+        (inner open_file told bytes)
 
     module _ (name : List ℕ) (ids : List FileId) (told : AreTold stores ids) (m : Marked) where
       found_one : (located : Located) (bytes : List ℕ) → IsFoundOnFiles located → Finds stores ids located [] bytes → Walked (IncludesFound stores Inner outer number name m located bytes)
@@ -94,24 +94,24 @@ module _ (stores : Stores) (tell : TellFiles stores) where
           }
 
   -- the lines of a file in which so many files may still be opened
-  module _ (left : ℕ) (Inner : FileWalk) (inner : IsOneWithin left Inner) (within : Within) (at : IsTold stores within.id) where
-    header_by : (n : ℕ) → IsOneWithin n Inner → (number : ℕ) (header : HeaderName) (m : Marked) → Walked (IncludesHeader stores n Inner within number header m)
-    header_by zero inner number header m = equal_one FreeFault PlainFault (Err (fault_at within number IncludeDepth)) (λ e. cc, tt)
+  module _ (left : ℕ) (Inner : FileWalk) (inner : IsOneWithin left Inner) (open_file : OpenFile) (at : IsTold stores open_file.id) where
+    header_by : (n : ℕ) → IsOneWithin n Inner → (number : ℕ) (header : HeaderName) (m : Marked) → Walked (IncludesHeader stores n Inner open_file number header m)
+    header_by zero inner number header m = equal_one FreeFault PlainFault (Err (fault_at open_file number IncludeDepth)) (λ e. cc, tt)
     header_by (suc n) inner number header m =
-        includes_one Inner inner within number header.name (candidates (length stores) within.id header.form header.name)
-        (candidates_told stores within.id header.form header.name tell at) m
+        includes_one Inner inner open_file number header.name (candidates (length stores) open_file.id header.form header.name)
+        (candidates_told stores open_file.id header.form header.name tell at) m
 
-    include_one : (here : Line) (m : Marked) → Walked (DoesInclude stores left Inner within here m)
+    include_one : (here : Line) (m : Marked) → Walked (DoesInclude stores left Inner open_file here m)
     include_one here m =
-        then_one FreeFault PlainFault (λ (r : Result HeaderName PpFault). (answer : Result HeaderName PpKind) × NamesHeader (macros m.seen) (here_of within here) (operands here) answer × (r ≡ placed within here.number answer))
-        (λ header. IncludesHeader stores left Inner within here.number header m)
-        (placed_one within here.number (NamesHeader (macros m.seen) (here_of within here) (operands here)) (header_one (macros m.seen) (here_of within here) (operands here)))
+        then_one FreeFault PlainFault (λ (r : Result HeaderName PpFault). (answer : Result HeaderName PpKind) × NamesHeader (macros m.seen) (here_of open_file here) (operands here) answer × (r ≡ placed open_file here.number answer))
+        (λ header. IncludesHeader stores left Inner open_file here.number header m)
+        (placed_one open_file here.number (NamesHeader (macros m.seen) (here_of open_file here) (operands here)) (header_one (macros m.seen) (here_of open_file here) (operands here)))
         (λ header. header_by left inner here.number header m)
 
-    other_one : (here : Line) (directive : Directive) (m : Marked) → Walked (Part within here.number (Directs within here directive m.seen) m)
-    other_one here directive m = part_one within here.number (Directs within here directive m.seen) m (directs_one within here directive m.seen)
+    other_one : (here : Line) (directive : Directive) (m : Marked) → Walked (Part open_file here.number (Directs open_file here directive m.seen) m)
+    other_one here directive m = part_one open_file here.number (Directs open_file here directive m.seen) m (directs_one open_file here directive m.seen)
 
-    does_one : (here : Line) (directive : Directive) (m : Marked) → Walked (DoesBy stores left Inner within here directive m)
+    does_one : (here : Line) (directive : Directive) (m : Marked) → Walked (DoesBy stores left Inner open_file here directive m)
     does_one here Include m = include_one here m
     does_one here Text m = other_one here Text m
     does_one here Null m = other_one here Null m
@@ -128,46 +128,46 @@ module _ (stores : Stores) (tell : TellFiles stores) where
     does_one here Pragma m = other_one here Pragma m
     does_one here Unknown m = other_one here Unknown m
 
-    lines_one : (lines : List Line) (m : Marked) → Walked (FollowsFile (ways stores left Inner within) (with_roles lines) m)
+    lines_one : (lines : List Line) (m : Marked) → Walked (FollowsFile (ways stores left Inner open_file) (with_roles lines) m)
     lines_one lines m =
-        file_one FreeFault PlainFault (ways stores left Inner within)
-        (λ here s. does_one here (directive_of here.tokens) (marked within.frames (Some here.number) s))
-        (λ here s. placed_one within here.number (HasAnswer within here s.seen) (question_one within here s.seen))
+        file_one FreeFault PlainFault (ways stores left Inner open_file)
+        (λ here s. does_one here (directive_of here.tokens) (marked open_file.frames (Some here.number) s))
+        (λ here s. placed_one open_file here.number (HasAnswer open_file here s.seen) (question_one open_file here s.seen))
         (λ fault number plain. (λ e. cc, plain))
         (with_roles lines) m
 
-    end_one : (lines : List Line) (m : Marked) → Walked (λ q. q ≡ ended within lines m)
+    end_one : (lines : List Line) (m : Marked) → Walked (λ q. q ≡ ended open_file lines m)
     end_one lines m =
-        let end = marked within.frames None m in
-        equal_one FreeFault PlainFault (ended within lines m) (kept_good within (last_number 0 lines) end (added m.seen End) (added_good m.seen End))
+        let end = marked open_file.frames None m in
+        equal_one FreeFault PlainFault (ended open_file lines m) (kept_good open_file (last_number 0 lines) end (added m.seen End) (added_good m.seen End))
 
     lex_ok : (a b : List Line) → ◌≡◌ {A = Result (List Line) LexFault} (Ok a) (Ok b) → a ≡ b
     lex_ok a b is = cc
 
-    unlexed_only : (bytes : List ℕ) (m : Marked) (fault : LexFault) → IsAnswer {A = List Line} (Err fault) → LexesFile bytes (Err fault) → (r : Result Marked PpFault) → WalksBytes stores left Inner within bytes m r → r ≡ Err (fault_at within (fault_line fault) (Lex fault))
+    unlexed_only : (bytes : List ℕ) (m : Marked) (fault : LexFault) → IsAnswer {A = List Line} (Err fault) → LexesFile bytes (Err fault) → (r : Result Marked PpFault) → WalksBytes stores left Inner open_file bytes m r → r ≡ Err (fault_at open_file (fault_line fault) (Lex fault))
     unlexed_only bytes m fault answer lexes r (Unlexed other lexed also is) =
-        is ∙ ap (λ (f : LexFault). Err (fault_at within (fault_line f) (Lex f))) (same_err {A = List Line} other fault (file-unique bytes (Err other) (Err fault) also answer lexed lexes))
+        is ∙ ap (λ (f : LexFault). Err (fault_at open_file (fault_line f) (Lex f))) (same_err {A = List Line} other fault (file-unique bytes (Err other) (Err fault) also answer lexed lexes))
     unlexed_only bytes m fault answer lexes r (Followed lines lexed goes) =
         let e : ◌≡◌ {A = Result (List Line) LexFault} (Ok lines) (Err fault) = file-unique bytes (Ok lines) (Err fault) tt answer lexed lexes in cc
 
-    followed_only : (bytes : List ℕ) (m : Marked) (lines : List Line) → LexesFile bytes (Ok lines) → (one : Walked (Then (FollowsFile (ways stores left Inner within) (with_roles lines) m) (λ t q. q ≡ ended within lines t))) →
-        (r : Result Marked PpFault) → Good FreeFault r → WalksBytes stores left Inner within bytes m r → r ≡ one.answer
+    followed_only : (bytes : List ℕ) (m : Marked) (lines : List Line) → LexesFile bytes (Ok lines) → (one : Walked (Then (FollowsFile (ways stores left Inner open_file) (with_roles lines) m) (λ t q. q ≡ ended open_file lines t))) →
+        (r : Result Marked PpFault) → Good FreeFault r → WalksBytes stores left Inner open_file bytes m r → r ≡ one.answer
     followed_only bytes m lines lexes one r good (Unlexed fault lexed also is) =
         let e : ◌≡◌ {A = Result (List Line) LexFault} (Err fault) (Ok lines) = file-unique bytes (Err fault) (Ok lines) also tt lexed lexes in cc
     followed_only bytes m lines lexes one r good (Followed others lexed goes) =
         one.only r good
-        (subst (λ (ls : List Line). Then (FollowsFile (ways stores left Inner within) (with_roles ls) m) (λ t q. q ≡ ended within ls t) r)
+        (subst (λ (ls : List Line). Then (FollowsFile (ways stores left Inner open_file) (with_roles ls) m) (λ t q. q ≡ ended open_file ls t) r)
         (lex_ok others lines (file-unique bytes (Ok others) (Ok lines) tt tt lexed lexes)) goes)
 
-    bytes_by : (bytes : List ℕ) (m : Marked) (answer : Result (List Line) LexFault) → IsAnswer answer → LexesFile bytes answer → Walked (WalksBytes stores left Inner within bytes m)
+    bytes_by : (bytes : List ℕ) (m : Marked) (answer : Result (List Line) LexFault) → IsAnswer answer → LexesFile bytes answer → Walked (WalksBytes stores left Inner open_file bytes m)
     bytes_by bytes m (Err fault) answer lexes = record {
-      answer = Err (fault_at within (fault_line fault) (Lex fault));
+      answer = Err (fault_at open_file (fault_line fault) (Lex fault));
       good = (λ e. cc, λ e. subst (λ (f : LexFault). IsAnswer {A = List Line} (Err f)) e answer);
       holds = Unlexed fault lexes answer refl;
       only = λ r good walks. unlexed_only bytes m fault answer lexes r walks;
     }
     bytes_by bytes m (Ok lines) answer lexes =
-        let one = then_one FreeFault PlainFault (FollowsFile (ways stores left Inner within) (with_roles lines) m) (λ t q. q ≡ ended within lines t) (lines_one lines m) (end_one lines) in
+        let one = then_one FreeFault PlainFault (FollowsFile (ways stores left Inner open_file) (with_roles lines) m) (λ t q. q ≡ ended open_file lines t) (lines_one lines m) (end_one lines) in
         record {
           answer = one.answer;
           good = one.good;
@@ -175,14 +175,14 @@ module _ (stores : Stores) (tell : TellFiles stores) where
           only = followed_only bytes m lines lexes one;
         }
 
-    bytes_one : (bytes : List ℕ) (m : Marked) → Walked (WalksBytes stores left Inner within bytes m)
+    bytes_one : (bytes : List ℕ) (m : Marked) → Walked (WalksBytes stores left Inner open_file bytes m)
     bytes_one bytes m = let lexes = lexed bytes in bytes_by bytes m lexes.0 lexes.1 lexes.2
 
   -- files within files
   walks_one : (left : ℕ) → IsOneWalk (Walks stores (suc left))
   unfolding Walks
-  walks_one zero within at bytes m = bytes_one zero (Walks stores zero) tt within at bytes m
-  walks_one (suc left) within at bytes m = bytes_one (suc left) (Walks stores (suc left)) (walks_one left) within at bytes m
+  walks_one zero open_file at bytes m = bytes_one zero (Walks stores zero) tt open_file at bytes m
+  walks_one (suc left) open_file at bytes m = bytes_one (suc left) (Walks stores (suc left)) (walks_one left) open_file at bytes m
 
   walk_one : (spec : UnitSpec) → Walked (Walk stores spec)
   walk_one spec =

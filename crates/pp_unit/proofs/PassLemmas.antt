@@ -4,25 +4,25 @@ use Rattle.std.specs.Result.{IsErrAnd, IfErr}
 use Rattle.pp_tokens.specs.declared.line.Line.{Line}
 use Rattle.pp_directives.specs.declared.directive.Directive.{Directive}
 use Rattle.pp_directives.specs.declared.directive.Directive.TheVariants.{Text, Null, If, Ifdef, Ifndef, Elif, Else, Endif, Include, Define, Undef, LineNumber, Error, Pragma, Unknown}
-use Rattle.pp_directives.specs.declared.open.Open.{Open}
+use Rattle.pp_directives.specs.declared.conditional.open_section.OpenSection.{OpenSection}
 use Rattle.pp_directives.specs.Conditions.{is_active}
 use Rattle.pp_directives.specs.Directives.{directive_of}
-use Rattle.pp_unit.specs.declared.within.Within.{Within}
+use Rattle.pp_unit.specs.declared.open_file.OpenFile.{OpenFile}
 use Rattle.pp_unit.specs.declared.stop.Stop.{Stop}
 use Rattle.pp_unit.specs.declared.fault.PpKind.{PpKind}
 use Rattle.pp_unit.specs.Seen.{Seen}
 use Rattle.pp_unit.specs.Files.{Stores}
-use Rattle.pp_unit.specs.Stopping.{stopped, is_text, IsStoreStop, IsOwnStop, KeepsRecord, IsActing, Acting}
+use Rattle.pp_unit.specs.Stopping.{stopped, is_text, IsStoreStop, IsOwnStop, KeepsLog, IsFollowedFurther, Classified}
 use Rattle.pp_unit.proofs.WalkLemmas.{LineSteps}
 use Rattle.pp_unit.proofs.StepLemmas.{directed_steps}
 use Rattle.pp_unit.proofs.CauseLemmas.{IsPlain, plain_stop}
 
 -- a call hands on a stop
-pub acting_stop_by : (within : Within) (old new : List Open) (here : Line) (seen : Seen) (r : Result (Option Directive) Stop) (stop : Stop) →
-    IsErrAnd r (λ found. found ≡ stop) → KeepsRecord within old here seen (Err stop) new → Acting within old here seen r new
-acting_stop_by within old new here seen (Ok None) stop e h = absurd e
-acting_stop_by within old new here seen (Ok (Some d)) stop e h = absurd e
-acting_stop_by within old new here seen (Err found) stop e h = subst (λ (s : Stop). KeepsRecord within old here seen (Err s) new) (sym e) h
+pub acting_stop_by : (open_file : OpenFile) (old new : List OpenSection) (here : Line) (seen : Seen) (r : Result (Option Directive) Stop) (stop : Stop) →
+    IsErrAnd r (λ found. found ≡ stop) → KeepsLog open_file old here seen (Err stop) new → Classified open_file old here seen r new
+acting_stop_by open_file old new here seen (Ok None) stop e h = absurd e
+acting_stop_by open_file old new here seen (Ok (Some d)) stop e h = absurd e
+acting_stop_by open_file old new here seen (Err found) stop e h = subst (λ (s : Stop). KeepsLog open_file old here seen (Err s) new) (sym e) h
 
 -- whose reason is none of a store
 pub own_stop_by : {A B : Type 0} (n : ℕ) (r : Result A PpKind) (stop : Stop) (q : Result B Stop) → ◌≡◌ {A = Result A Stop} (Err stop) (stopped n r) → IsPlain r → IsErrAnd q (λ found. found ≡ stop) → IfErr q IsOwnStop
@@ -47,12 +47,12 @@ text_is Pragma is = cc
 text_is Unknown is = cc
 
 -- a line of a taken group that is no directive
-pub text_steps : (stores : Stores) (within : Within) (pending : List Open) (here : Line) (seen : Seen) (d : Directive) →
-    d ≡ directive_of here.tokens → is_text d ≡ true → is_active pending ≡ true → LineSteps stores within pending here seen (Ok seen) pending
-text_steps stores within pending here seen d is text active =
-    directed_steps stores within pending here seen Text (Ok seen) (Ok seen) (text_is d text ∙ is) refl active refl refl refl
+pub text_steps : (stores : Stores) (open_file : OpenFile) (pending : List OpenSection) (here : Line) (seen : Seen) (d : Directive) →
+    d ≡ directive_of here.tokens → is_text d ≡ true → is_active pending ≡ true → LineSteps stores open_file pending here seen (Ok seen) pending
+text_steps stores open_file pending here seen d is text active =
+    directed_steps stores open_file pending here seen Text (Ok seen) (Ok seen) (text_is d text ∙ is) refl active refl refl refl
 
 -- a line that is followed further
-pub acting_steps : (stores : Stores) (within : Within) (old new : List Open) (here : Line) (seen : Seen) (d : Directive) (result : Result Seen Stop) → IsActing old here d new →
-    ((pending : List Open) → is_active pending ≡ true → LineSteps stores within pending here seen result pending) → LineSteps stores within old here seen result new
-acting_steps stores within old new here seen d result acts steps = subst (λ (p : List Open). LineSteps stores within old here seen result p) (sym acts.same) (steps old acts.active)
+pub acting_steps : (stores : Stores) (open_file : OpenFile) (old new : List OpenSection) (here : Line) (seen : Seen) (d : Directive) (result : Result Seen Stop) → IsFollowedFurther old here d new →
+    ((pending : List OpenSection) → is_active pending ≡ true → LineSteps stores open_file pending here seen result pending) → LineSteps stores open_file old here seen result new
+acting_steps stores open_file old new here seen d result acts steps = subst (λ (p : List OpenSection). LineSteps stores open_file old here seen result p) (sym acts.same) (steps old acts.active)

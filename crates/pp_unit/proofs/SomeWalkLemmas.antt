@@ -1,4 +1,4 @@
--- The walk of a unit over any stores has an answer on the files: the one where each store that tells nothing has no file.
+-- The walk of a translation unit over any stores has an answer on the files: the one where each store that tells nothing has no file.
 use Rattle.std.proofs.Common.{◌≡◌, ℕ, zero, suc, ◌<◌, List, [], ◌∷◌, length, Option, None, Some, Result, Ok, Err, refl, ap, subst, sym, ◌∙◌}
 use Rattle.std.specs.List.{All}
 use Rattle.std.proofs.lemmas.List.Elements.{All-nil, All-cons}

@@ -1,4 +1,4 @@
--- Marks and events of a small unit: at each line both have the same front of the events.
+-- Marks and events of a small translation unit: at each line both have the same prefix of the events.
 use Rattle.std.proofs.Common.{◌≡◌, ℕ, List, [], ◌∷◌, take, Option, Some, None, Ok, Err, refl}
 use Rattle.std.specs.List.{find}
 use Rattle.mac_base.specs.Items.{Item, Define, Undef, Start, End}
@@ -27,7 +27,7 @@ marks =
     ∷ mark [] None 9
     ∷ []
 
--- the events in front of a mark
+-- the events before a mark
 abbrev events_at : Option Mark → List (Item ℕ)
 events_at None = []
 events_at (Some mark) = take mark.events unit
@@ -42,14 +42,14 @@ line_0_has_the_command = refl
 before_the_inclusion : prefix unit 1 2 ≡ events_at (find (is_at [] 2) marks)
 before_the_inclusion = refl
 
-behind_the_inclusion : prefix unit 1 3 ≡ events_at (find (is_at [] 3) marks)
-behind_the_inclusion = refl
+after_the_inclusion : prefix unit 1 3 ≡ events_at (find (is_at [] 3) marks)
+after_the_inclusion = refl
 
 in_a_skipped_group : prefix unit 1 4 ≡ events_at (find (is_at [] 4) marks)
 in_a_skipped_group = refl
 
-behind_the_last_line : prefix unit 1 100 ≡ events_at (find (is_at [] 100) marks)
-behind_the_last_line = refl
+after_the_last_line : prefix unit 1 100 ≡ events_at (find (is_at [] 100) marks)
+after_the_last_line = refl
 
 the_included_file : instance unit (2 ∷ []) ≡ Ok 3
 the_included_file = refl

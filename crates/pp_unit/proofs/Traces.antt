@@ -1,4 +1,4 @@
--- What the walk of a file leaves, line by line, as a tree; and its entries, in which those that stand directly in the file are found.
+-- What the walk of a file leaves, line by line, as a tree; and its entries, in which those that are directly in the file are found.
 use Rattle.std.proofs.Common.{◌≡◌, ◌<◌, ℕ, suc, ◌+◌, ◌-◌, Bool, true, false, cond, ◌&&◌, eqb, List, [], ◌∷◌, ◌++◌, length, Option, Some, None, refl, ap, ◌∙◌, arith}
 use Rattle.std.specs.Option.{option_map, option_and_then}
 use Rattle.mac_base.specs.Items.{Item, Define, Undef, Start, End, depth_behind, first_inside}
@@ -28,11 +28,11 @@ size (Defines n text t) = suc (size t)
 size (Undefines n name t) = suc (size t)
 size (Includes n path inner t) = suc (size inner + suc (size t))
 
--- a mark in front of a line, or of the end
+-- a mark before a line, or of the end
 abbrev pub mark : List ℕ → Option ℕ → ℕ → Mark
 mark chain line events = record { chain = chain; line = line; events = events }
 
--- the marks of these lines of a file, where so many entries stand in front of them, and then more
+-- the marks of these lines of a file, where so many entries are before them, and then more
 abbrev pub marks_onto : List ℕ → ℕ → Trace → List Mark → List Mark
 marks_onto c e Done more = more
 marks_onto c e (Silent n t) more = mark c (Some n) e ∷ marks_onto c e t more
@@ -51,7 +51,7 @@ Rises low (Defines n text t) = (low < n) × Rises n t
 Rises low (Undefines n name t) = (low < n) × Rises n t
 Rises low (Includes n path inner t) = (low < n) × Rises 0 inner × Rises n t
 
--- the entries in front of more
+-- the entries before more
 pub onto_append : (t : Trace) (more rest : List (Item ℕ)) → items_onto t (more ++ rest) ≡ items_onto t more ++ rest
 onto_append Done more rest = refl
 onto_append (Silent n t) more rest = onto_append t more rest
@@ -89,7 +89,7 @@ not_zero : (d : ℕ) → 0 < d → eqb d 0 ≡ false
 not_zero d deep = grind arith
 
 module _ (test : Item ℕ → Bool) where
-  -- an entry that does not stand directly in the file
+  -- an entry that is not directly in the file
   deep_step : (item : Item ℕ) (items : List (Item ℕ)) (d : ℕ) → 0 < d →
       first_inside test (item ∷ items) d ≡ option_and_then (λ inner. option_map (λ n. n + 1) (first_inside test items inner)) (depth_behind item d)
   deep_step item items d deep =
@@ -106,7 +106,7 @@ module _ (test : Item ℕ → Bool) where
   found item items passes =
       λ i. cond (passes i) (Some 0) (option_and_then (λ inner. option_map (λ n. n + 1) (first_inside test items inner)) (depth_behind item 0))
 
-  -- the end of a file that stands in another
+  -- the end of a file that is in another
   deep_end : (items : List (Item ℕ)) (d : ℕ) → 0 < d → first_inside test (End ∷ items) d ≡ shift 1 (first_inside test items (d - 1))
   deep_end items d deep =
       deep_step End items d deep
@@ -114,7 +114,7 @@ module _ (test : Item ℕ → Bool) where
       ∙ ap (option_map (λ n. n + 1)) (no_shift (first_inside test items (d - 1)))
       ∙ one_more 0 (first_inside test items (d - 1))
 
-  -- the lines of a file that stands in another
+  -- the lines of a file that is in another
   pub over : (t : Trace) (items : List (Item ℕ)) (d : ℕ) → 0 < d → first_inside test (items_onto t items) d ≡ shift (size t) (first_inside test items d)
   over Done items d deep = no_shift (first_inside test items d)
   over (Silent n t) items d deep = over t items d deep
@@ -128,7 +128,7 @@ module _ (test : Item ℕ → Bool) where
       ∙ one_more (size t) (first_inside test items d)
   over (Includes n path inner t) items d deep =
       let back : d + 1 - 1 ≡ d = omega arith in
-      let behind : first_inside test (End ∷ items_onto t items) (d + 1) ≡ shift (suc (size t)) (first_inside test items d) =
+      let after : first_inside test (End ∷ items_onto t items) (d + 1) ≡ shift (suc (size t)) (first_inside test items d) =
       deep_end (items_onto t items) (d + 1) (omega arith)
       ∙ ap (λ (n : ℕ). shift 1 (first_inside test (items_onto t items) n)) back
       ∙ ap (shift 1) (over t items d deep)
@@ -137,7 +137,7 @@ module _ (test : Item ℕ → Bool) where
       deep_step (Start n path) (items_onto inner (End ∷ items_onto t items)) d deep
       ∙ ap (option_map (λ n. n + 1)) (over inner (End ∷ items_onto t items) (d + 1) (omega arith))
       ∙ one_more (size inner) (first_inside test (End ∷ items_onto t items) (d + 1))
-      ∙ ap (shift (suc (size inner))) behind
+      ∙ ap (shift (suc (size inner))) after
       ∙ two_shifts (suc (size inner)) (suc (size t)) (first_inside test items d)
       ∙ ap (λ (n : ℕ). shift n (first_inside test items d)) (omega arith)
 

@@ -20,7 +20,7 @@ onto_two (here ∷ a) b more = ap (λ (list : List Line). here.item ∷ list) (o
 module _ (ways : Ways Line Marked PpFault) (c : List ℕ) (to : Marked)
     (passes : (here : Line) (lines : List Line) (m : Marked) → Leaves c to lines (ways.passes here m) → Leaves c to (here ∷ lines) m)
     (does : (here : Line) (lines : List Line) (m next : Marked) → ways.Does here m (Ok next) → Leaves c to lines next → Leaves c to (here ∷ lines) m) where
-  -- what a group leaves in front of more
+  -- what a group leaves before more
   abbrev OfGroup : Group Line → Type 0
   OfGroup g = (m next : Marked) (more : List Line) → Follows ways g m (Ok next) → Leaves c to more next → Leaves c to (onto (lines_of g) more) m
 
@@ -31,7 +31,7 @@ module _ (ways : Ways Line Marked PpFault) (c : List ℕ) (to : Marked)
   passed [] more m leaves = leaves
   passed (here ∷ lines) more m leaves = passes here.item (onto lines more) m (passed lines more (ways.passes here.item m) leaves)
 
-  -- lines that were passed, by the state behind them
+  -- lines that were passed, by the state after them
   passed_to : (lines : List (CondLine Line)) (more : List Line) (m next : Marked) → ◌≡◌ {A = Result Marked PpFault} (Ok next) (Ok (passed_all ways lines m)) → Leaves c to more next → Leaves c to (onto lines more) m
   passed_to lines more m next is leaves = passed lines more m (subst (Leaves c to more) (same_ok {E = PpFault} next (passed_all ways lines m) is) leaves)
 
@@ -61,18 +61,18 @@ module _ (ways : Ways Line Marked PpFault) (c : List ℕ) (to : Marked)
   decided here g t group tail m next more (Goes {s = answer} asks follows) leaves =
       passes here (onto (lines_of g ++ tail_lines t) more) m (chosen answer g t group tail (ways.passes here m) next more follows leaves)
 
-  -- a line that does something, and what stands behind it
-  other : (here : Line) (behind : Group Line) → OfGroup behind → (m next : Marked) (more : List Line) →
-      Then (ways.Does here m) (Follows ways behind) (Ok next) → Leaves c to more next → Leaves c to (here ∷ onto (lines_of behind) more) m
-  other here behind rest m next more (Goes {s = middle} does_it follows) leaves =
-      does here (onto (lines_of behind) more) m middle does_it (rest middle next more follows leaves)
+  -- a line that does something, and what comes after it
+  other : (here : Line) (after : Group Line) → OfGroup after → (m next : Marked) (more : List Line) →
+      Then (ways.Does here m) (Follows ways after) (Ok next) → Leaves c to more next → Leaves c to (here ∷ onto (lines_of after) more) m
+  other here after rest m next more (Goes {s = middle} does_it follows) leaves =
+      does here (onto (lines_of after) more) m middle does_it (rest middle next more follows leaves)
 
-  -- a section, and what stands behind it
-  section : (opening : Line) (g : Group Line) (t : Tail Line) (behind : Group Line) → OfGroup g → OfTail t → OfGroup behind → (m next : Marked) (more : List Line) →
-      Follows ways (Section opening g t behind) m (Ok next) → Leaves c to more next → Leaves c to (onto (lines_of (Section opening g t behind)) more) m
-  section opening g t behind group tail rest m next more (Goes {s = middle} first follows) leaves =
-      subst (λ (lines : List Line). Leaves c to (opening ∷ lines) m) (sym (onto_two (lines_of g ++ tail_lines t) (lines_of behind) more))
-      (decided opening g t group tail m middle (onto (lines_of behind) more) first (rest middle next more follows leaves))
+  -- a section, and what comes after it
+  section : (opening : Line) (g : Group Line) (t : Tail Line) (after : Group Line) → OfGroup g → OfTail t → OfGroup after → (m next : Marked) (more : List Line) →
+      Follows ways (Section opening g t after) m (Ok next) → Leaves c to more next → Leaves c to (onto (lines_of (Section opening g t after)) more) m
+  section opening g t after group tail rest m next more (Goes {s = middle} first follows) leaves =
+      subst (λ (lines : List Line). Leaves c to (opening ∷ lines) m) (sym (onto_two (lines_of g ++ tail_lines t) (lines_of after) more))
+      (decided opening g t group tail m middle (onto (lines_of after) more) first (rest middle next more follows leaves))
 
   -- the last group of a section
   last : (here : Line) (g : Group Line) (ending : Line) → OfGroup g → (m next : Marked) (more : List Line) →
@@ -86,8 +86,8 @@ module _ (ways : Ways Line Marked PpFault) (c : List ℕ) (to : Marked)
   mutual
     pub of_group : (g : Group Line) → OfGroup g
     of_group Empty m next more follows leaves = subst (Leaves c to more) (same_ok {E = PpFault} next m follows) leaves
-    of_group (Other here behind) m next more follows leaves = other here behind (of_group behind) m next more follows leaves
-    of_group (Section opening g t behind) m next more follows leaves = section opening g t behind (of_group g) (of_tail t) (of_group behind) m next more follows leaves
+    of_group (Other here after) m next more follows leaves = other here after (of_group after) m next more follows leaves
+    of_group (Section opening g t after) m next more follows leaves = section opening g t after (of_group g) (of_tail t) (of_group after) m next more follows leaves
 
     pub of_tail : (t : Tail Line) → OfTail t
     of_tail (Elif here g t) m next more follows leaves = decided here g t (of_group g) (of_tail t) m next more follows leaves

@@ -13,13 +13,13 @@ use Rattle.macro_table.specs.Definitions.{DefValue}
 use Rattle.macro_table.specs.SameDefinitions.{same_def}
 use Rattle.macro_table.specs.Texts.{text_of, def_of_text}
 use Rattle.mac_base.specs.Items.{Define, Undef}
-use Rattle.pp_unit.specs.declared.spec.Command.{Command}
-use Rattle.pp_unit.specs.declared.spec.Command.TheVariants.{Define as DefineWord, Undef as UndefWord}
+use Rattle.pp_unit.specs.declared.request.Command.{Command}
+use Rattle.pp_unit.specs.declared.request.Command.TheVariants.{Define as DefineWord, Undef as UndefWord}
 use Rattle.pp_unit.specs.declared.fault.PpKind.{PpKind}
 use Rattle.pp_unit.specs.declared.fault.PpKind.TheVariants.{Lex, Def, Predefined, Redefined, NoMemory}
 use Rattle.pp_unit.specs.Seen.{Seen, table, text_in, added}
 
--- the names that are neither defined nor undefined (6.10.8 p4): the three that are predefined here, and those that are built in
+-- The names that are neither defined nor undefined (6.10.8 p2): the three that are predefined here, and those that are built in. The project's own: `defined` is not among them, so `#undef defined` is an event, where gcc and clang reject it.
 abbrev pub is_predefined : List ℕ → Bool
 is_predefined name = list_any (same name) (codes "__STDC__" ∷ codes "__STDC_HOSTED__" ∷ codes "__STDC_VERSION__" ∷ codes "__LINE__" ∷ codes "__FILE__" ∷ [])
 
@@ -44,12 +44,12 @@ defined seen line def =
 abbrev pub undefined : Seen → ℕ → List ℕ → Result Seen PpKind
 undefined seen line name = if is_predefined name then Err (Predefined name) else added seen (Undef line name)
 
--- what the tokens behind `#define` define, in this line
+-- what the tokens after `#define` define, in this line
 abbrev pub defined_by : Seen → ℕ → Result DefValue DefFault → Result Seen PpKind
 defined_by seen line (Ok def) = defined seen line def
 defined_by seen line (Err fault) = Err (Def fault)
 
--- the same of a text, in front of all files
+-- the same of a text, before all files
 abbrev pub defined_by_text : Seen → Result DefValue TextFault → Result Seen PpKind
 defined_by_text seen (Ok def) = defined seen 0 def
 defined_by_text seen (Err (TextLex fault)) = Err (Lex fault)
@@ -71,7 +71,7 @@ abbrev pub all_commanded : Seen → List Command → Result Seen PpKind
 all_commanded seen [] = Ok seen
 all_commanded seen (command ∷ commands) = commanded seen command >>= λ next. all_commanded next commands
 
--- what is predefined (6.10.8.1), in front of all words and files
+-- what is predefined (6.10.8.1), before all words and files
 abbrev pub predefined : Seen
 predefined = record {
   items = Define 0 (codes "__STDC__ 1") ∷ Define 0 (codes "__STDC_HOSTED__ 1") ∷ Define 0 (codes "__STDC_VERSION__ 201710L") ∷ [];

@@ -15,10 +15,10 @@ use Rattle.macro_expand.specs.Macros.{Macros}
 use Rattle.macro_expand.specs.Rules.{ExpandsTo}
 use Rattle.pp_unit.specs.declared.fault.PpKind.{PpKind}
 use Rattle.pp_unit.specs.declared.fault.PpKind.TheVariants.{Expand, BadInclude}
-use Rattle.pp_unit.specs.declared.header.HeaderName.{HeaderName}
+use Rattle.pp_unit.specs.declared.directives.header.HeaderName.{HeaderName}
 use Rattle.pp_unit.specs.LineNumbers.{begins_quoted, is_plain_string}
 
--- what stands between the delimiters of a text
+-- what is between the delimiters of a text
 abbrev pub between : List ℕ → List ℕ
 between text = take (length text - 2) (drop 1 text)
 
@@ -36,7 +36,7 @@ abbrev pub is_header_kind : Kind → Bool
 is_header_kind Header = true
 is_header_kind _ = false
 
--- the text of a header name in front (6.4.7); what follows it is not looked at
+-- the text of a header name that comes first (6.4.7); what follows it is not looked at
 abbrev pub header_text : List Token → Option (List ℕ)
 header_text [] = None
 header_text (t ∷ ts) = if is_header_kind t.kind then Some t.text else None
@@ -49,7 +49,7 @@ is_close = is_spelled (codes ">")
 abbrev pub before_angle : List Token → Option (List Token)
 before_angle tokens = if list_any is_close tokens then Some (take_while (λ t. not (is_close t)) tokens) else None
 
--- the texts of the tokens behind `<`, with a space where white space stands between two of them, are one name
+-- the texts of the tokens after `<`, with a space where white space is between two of them, are one name
 abbrev pub angle_named : Option (List Token) → Result HeaderName PpKind
 angle_named None = Err BadInclude
 angle_named (Some tokens) = named Angle (body_text tokens)

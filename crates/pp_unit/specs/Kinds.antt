@@ -1,4 +1,4 @@
--- How a fault of a part is the kind of a fault of a unit, and where faults stand.
+-- How a fault of a part is the kind of a fault of a translation unit, and where faults are.
 use Rattle.std.specs.Prelude.{ℕ, [], Result, Ok, Err}
 use Rattle.pp_tokens.specs.declared.fault.LexFault.{LexFault}
 use Rattle.pp_tokens.specs.declared.fault.LexFault.TheVariants.{NoMemory as LexRanOut}
@@ -16,7 +16,7 @@ use Rattle.pp_directives.specs.declared.fault.StructFault.TheVariants.{NoMemory 
 use Rattle.pp_unit.specs.declared.fault.PpKind.{PpKind}
 use Rattle.pp_unit.specs.declared.fault.PpKind.TheVariants.{Lex, Def, Expr, Expand, Struct, NoMemory}
 use Rattle.pp_unit.specs.declared.fault.PpFault.{PpFault}
-use Rattle.pp_unit.specs.declared.within.Within.{Within}
+use Rattle.pp_unit.specs.declared.open_file.OpenFile.{OpenFile}
 
 -- a fault of tokens; want of memory stays want of memory, here and below
 abbrev pub lex_kind : LexFault → PpKind
@@ -50,13 +50,13 @@ struct_kind StructRanOut = NoMemory
 struct_kind fault = Struct fault
 
 -- a fault of this kind at a line of the file that is open innermost
-abbrev pub fault_at : Within → ℕ → PpKind → PpFault
-fault_at within line kind = record { place = record { frames = within.frames; line = line }; path = within.path; what = kind }
+abbrev pub fault_at : OpenFile → ℕ → PpKind → PpFault
+fault_at open_file line kind = record { place = record { frames = open_file.frames; line = line }; path = open_file.path; what = kind }
 
--- what a line comes to, where its faults stand there
-abbrev pub placed : {A : Type 0} → Within → ℕ → Result A PpKind → Result A PpFault
-placed within line (Ok x) = Ok x
-placed within line (Err kind) = Err (fault_at within line kind)
+-- what a line comes to, where its faults are there
+abbrev pub placed : {A : Type 0} → OpenFile → ℕ → Result A PpKind → Result A PpFault
+placed open_file line (Ok x) = Ok x
+placed open_file line (Err kind) = Err (fault_at open_file line kind)
 
 -- that memory ran out, which has no place
 abbrev pub ran_out : PpFault

@@ -3,12 +3,13 @@ pub mod Seen
 pub mod Definitions
 pub mod LineNumbers
 pub mod HeaderNames
-pub mod Questions
+pub mod LineConditions
 pub mod Lines
 pub mod Files
 pub mod Walk
 pub mod Recorded
 pub mod PreTables
 pub mod TableLaws
+pub mod TableChanges
 pub mod Stopping
 pub mod WalkLaws

@@ -12,12 +12,12 @@ use Rattle.macro_expand.specs.Rules.{ExpandsTo}
 use Rattle.pp_unit.specs.declared.fault.PpKind.{PpKind}
 use Rattle.pp_unit.specs.declared.fault.PpKind.TheVariants.{Expand, BadLine}
 
--- the number that decimal digits go on with behind this one
+-- the number that decimal digits go on with after this one
 abbrev pub decimal_from : ℕ → List ℕ → ℕ
 decimal_from number [] = number
 decimal_from number (byte ∷ bytes) = decimal_from (10 * number + (byte - 48)) bytes
 
--- the most that may stand behind `#line` (6.10.4 p3)
+-- the largest number after `#line` (6.10.4 p3)
 abbrev pub line_limit : ℕ
 line_limit = 2147483647
 
@@ -50,7 +50,7 @@ is_line (t ∷ u ∷ v ∷ ts) = false
 abbrev pub line_checked : {A : Type 0} → A → List Token → Result A PpKind
 line_checked x tokens = if is_line tokens then Ok x else Err BadLine
 
--- HasLine macros here tokens x answer: the answer is x, where the operands have one of the forms as they stand, or else when they are expanded (6.10.4 p5)
+-- HasLine macros here tokens x answer: the answer is x, where the operands have one of the forms as they are, or else when they are expanded (6.10.4 p5)
 pub data HasLine {A : Type 0} (macros : Macros) (here : Here) (tokens : List Token) (x : A) : Result A PpKind → Type 0 where
   Stands : is_line tokens ≡ true → HasLine macros here tokens x (Ok x)
   Fails : {fault : ExpandFault} → is_line tokens ≡ false → ExpandsTo macros here tokens (Err fault) → HasLine macros here tokens x (Err (Expand fault))

@@ -11,20 +11,20 @@ use Rattle.pp_unit.specs.Seen.{Mark, Marked}
 abbrev pub is_of : List ℕ → Mark → Bool
 is_of chain mark = same mark.chain chain
 
--- whether what a mark stands in front of has this line's number or a later one; the end of a file is behind all lines
+-- whether what comes after a mark has this line's number or a later one; the end of a file comes after all lines
 abbrev pub is_reached : ℕ → Option ℕ → Bool
 is_reached l None = true
 is_reached l (Some line) = nat_le l line
 
--- a mark of the file that this chain names, at this line of it or behind it
+-- a mark of the file that this chain names, at this line of it or after it
 abbrev pub is_at : List ℕ → ℕ → Mark → Bool
 is_at chain l mark = is_of chain mark && is_reached l mark.line
 
--- the table in front of the first line of that file that has this number or a later one, or in front of the file's end
+-- the table before the first line of that file that has this number or a later one, or before the file's end
 abbrev pub table_at : Marked → List ℕ → ℕ → Option (TableOf ℕ)
 table_at m chain l = option_map (λ (mark : Mark). table_of (take mark.events m.seen.items)) (find (is_at chain l) m.marks)
 
--- how many of the files that a chain names were walked, from the one on that a front of the chain names, by what is left of it: those with a mark, up to the first without one
+-- how many of the files that a chain names were walked, from the one on that a prefix of the chain names, by what is left of it: those with a mark, up to the first without one
 abbrev pub files_walked : List Mark → List ℕ → List ℕ → ℕ
 files_walked marks front [] = if list_any (is_of front) marks then 1 else 0
 files_walked marks front (line ∷ lines) = if list_any (is_of front) marks then 1 + files_walked marks (front ++ line ∷ []) lines else 0

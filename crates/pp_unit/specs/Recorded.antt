@@ -1,4 +1,4 @@
--- What the code keeps beside what it has recorded, and how its calls answer.
+-- Cited only by contracts of private functions. What the code keeps beside what it has recorded, and how its calls answer.
 use Rattle.std.specs.Prelude.{◌≡◌, ◌⊎◌, ℕ, ◌<◌, ◌≤◌, ◌==◌, Bool, ◌&&◌, List, [], ◌∷◌, ◌++◌, length, position, Some, Result, Ok, Err}
 use Rattle.std.specs.declared.cmp.Ordering.{Ordering}
 use Rattle.std.specs.Ordering.{nat_cmp, ordering_then}
@@ -27,7 +27,7 @@ pub record IsSound (items : List (Item ℕ)) (files : List (List ℕ)) (text : �
   pub paths : length files ≤ length items
   pub texts : SameTexts kept (table_of items)
 
--- the number that a map has for a path says where it stands first
+-- the number that a map has for a path says where it comes first
 abbrev pub AreNumbered : finite.FinMap (slice_cmp nat_cmp) ℕ → List (List ℕ) → Type 0
 AreNumbered numbers paths = (path : List ℕ) → finite.get numbers path ≡ position (same path) paths
 

@@ -13,11 +13,11 @@ use Rattle.macro_expand.specs.Macros.{Macros, macros_of}
 use Rattle.pp_unit.specs.declared.fault.PpKind.{PpKind}
 use Rattle.pp_unit.specs.declared.fault.PpKind.TheVariants.{TooManyEvents, TooMuchText}
 
--- the most events of a unit
+-- the most events of a translation unit: the project's own limit
 abbrev pub event_limit : ℕ
 event_limit = 4194304
 
--- the most bytes that all texts of definitions and names of `#undef` have together
+-- the most bytes that all texts of definitions and names of `#undef` have together: the project's own limit
 abbrev pub text_limit : ℕ
 text_limit = 268435456
 
@@ -27,7 +27,7 @@ pub record Seen : Type 0 where
   pub files : List (List ℕ)
   pub once : List FileId
 
--- the table behind all events so far
+-- the table after all events so far
 abbrev pub table : Seen → TableOf ℕ
 table seen = table_of seen.items
 
@@ -57,7 +57,7 @@ added seen item =
     else (if nat_lt text_limit (texts_length seen.items + text_length item) then Err TooMuchText
     else Ok (record seen { items = seen.items ++ item ∷ [] }))
 
--- the paths with this one, which stands there or not
+-- the paths with this one, which may be there already
 abbrev pub with_path : List (List ℕ) → List ℕ → Option ℕ → List (List ℕ)
 with_path files path None = files ++ path ∷ []
 with_path files path (Some number) = files
@@ -67,7 +67,7 @@ abbrev pub number_or : ℕ → Option ℕ → ℕ
 number_or next None = next
 number_or next (Some number) = number
 
--- where a path stands among the paths
+-- where a path is among the paths
 abbrev pub place_of : Seen → List ℕ → Option ℕ
 place_of seen path = position (same path) seen.files
 
@@ -91,7 +91,7 @@ is_once seen id = list_any (same_file id) seen.once
 abbrev pub with_once : Seen → FileId → Seen
 with_once seen id = record seen { once = seen.once ++ id ∷ [] }
 
--- In front of a line, or of the end of a file: the chain of the lines in which the file and those around it are included, the primary file left out; the number of the line, none at the end; and how many events there are. The table there is that of these first events.
+-- Before a line, or of the end of a file: the chain of the lines in which the file and those around it are included, the primary file left out; the number of the line, none at the end; and how many events there are. The table there is that of these first events.
 pub record Mark : Type 0 where
   pub chain : List ℕ
   pub line : Option ℕ

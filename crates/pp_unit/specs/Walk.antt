@@ -2,8 +2,8 @@
 use Rattle.std.specs.Prelude.{◌≡◌, ◌⊎◌, ℕ, [], ◌∷◌, map, Result, Ok, Err}
 use Rattle.mac_base.specs.declared.events.Events.{Events}
 use Rattle.pp_directives.specs.Following.{Then}
-use Rattle.pp_unit.specs.declared.within.Within.{Within}
-use Rattle.pp_unit.specs.declared.spec.UnitSpec.{UnitSpec}
+use Rattle.pp_unit.specs.declared.open_file.OpenFile.{OpenFile}
+use Rattle.pp_unit.specs.declared.request.UnitSpec.{UnitSpec}
 use Rattle.pp_unit.specs.declared.fault.PpFault.{PpFault}
 use Rattle.pp_unit.specs.declared.fault.PpKind.TheVariants.{StoreFault}
 use Rattle.pp_unit.specs.Kinds.{ran_out}
@@ -12,15 +12,15 @@ use Rattle.mac_base.specs.ItemLines.{item_of}
 use Rattle.pp_unit.specs.Definitions.{all_commanded, predefined}
 use Rattle.pp_unit.specs.Files.{Stores, Part, Includes, Walks}
 
--- the most files that are open at once
+-- the most files that are open at once: the project's own limit (5.2.4.1 p1 asks for 15)
 abbrev pub open_limit : ℕ
 open_limit = 200
 
--- in front of all files
-abbrev pub outside : Within
+-- before all files
+abbrev pub outside : OpenFile
 outside = record { frames = []; path = []; id = record { store = 0; name = [] } }
 
--- Walk stores spec answer: what the unit comes to, with the marks that were left on the way
+-- Walk stores spec answer: what the translation unit comes to, with the marks that were left on the way
 abbrev pub Walk : Stores → UnitSpec → Result Marked PpFault → Type 0
 Walk stores spec =
     Then

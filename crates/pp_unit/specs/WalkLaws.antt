@@ -7,7 +7,7 @@ use Rattle.macro_table.specs.declared.fault.DefFault.TheVariants.{NoMemory as De
 use Rattle.macro_expand.specs.declared.fault.ExpandFault.TheVariants.{NoMemory as ExpandRanOut}
 use Rattle.pp_directives.specs.declared.fault.ExprFault.TheVariants.{NoMemory as ExprRanOut}
 use Rattle.pp_directives.specs.declared.fault.StructFault.TheVariants.{NoMemory as StructRanOut}
-use Rattle.pp_unit.specs.declared.spec.UnitSpec.{UnitSpec}
+use Rattle.pp_unit.specs.declared.request.UnitSpec.{UnitSpec}
 use Rattle.pp_unit.specs.declared.fault.PpFault.{PpFault}
 use Rattle.pp_unit.specs.declared.fault.PpKind.{PpKind}
 use Rattle.pp_unit.specs.declared.fault.PpKind.TheVariants.{Lex, Def, Expr, Expand, Struct, StoreFault, NoMemory}
@@ -44,7 +44,7 @@ pub record HasOneOnFiles (Answers : Result Marked PpFault → Type 0) : Type 0 w
   -- no answer is want of memory
   pub plain : (fault : PpFault) → Answers (Err fault) → IsPlain fault.what
 
--- A unit over such stores is accepted in one way, or has one first fault, but for the failures of stores.
+-- A translation unit over such stores is accepted in one way, or has one first fault, but for the failures of stores.
 abbrev pub WalkHasOneAnswer : Type 0
 WalkHasOneAnswer = (stores : Stores) (spec : UnitSpec) → TellFiles stores → HasOneOnFiles (Walk stores spec)
 
@@ -63,6 +63,6 @@ pub record HasSomeOnFiles (Answers : Result Marked PpFault → Type 0) : Type 0 
   -- it is an answer
   pub holds : Answers answer
 
--- A unit is accepted or has a first fault, whatever the stores tell of their files. Where one tells nothing, there may be more answers.
+-- A translation unit is accepted or has a first fault, whatever the stores tell of their files. Where one tells nothing, there may be more answers.
 abbrev pub WalkHasAnAnswer : Type 0
 WalkHasAnAnswer = (stores : Stores) (spec : UnitSpec) → 0 < length stores → HasSomeOnFiles (Walk stores spec)

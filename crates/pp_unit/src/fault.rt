@@ -30,7 +30,7 @@ pub enum PpKind {
     /// A macro definition is none.
     #[error("{0}")]
     Def(DefFault),
-    /// The name is predefined or built in (C17 6.10.8 p4).
+    /// The name is predefined or built in (C17 6.10.8 p2).
     #[error("a predefined name")]
     Predefined { name: Bytes },
     /// The name has another definition (6.10.3 p2).
@@ -79,7 +79,7 @@ pub enum PpKind {
     NoMemory,
 }
 
-/// The first fault of a translation unit, and where it stands.
+/// The first fault of a translation unit, and its place.
 #[derive(Debug, Drop)]
 pub struct PpFault {
     /// The open files, and the line in the innermost one; no file and line 0 for a word of the command.

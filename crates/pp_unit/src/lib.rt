@@ -2,20 +2,11 @@
 //! events, or the first fault.
 #![tactic(auto)]
 
-mod defining;
-mod direct;
+mod directives;
+mod event_log;
 mod fault;
-mod header;
-mod header_name;
-mod lexed_files;
-mod line_number;
-mod once_files;
-mod open;
-mod passing;
-mod path_numbers;
-mod question;
-mod record;
-mod spec;
+mod open_file;
+mod request;
 mod spelled;
 mod stop;
 mod tables_law;
@@ -24,10 +15,9 @@ mod tests;
 mod unit;
 mod walk;
 mod walk_law;
-mod within;
 
 pub use fault::{DirectiveFault, PpFault, PpKind};
-pub use spec::{Command, Commands, UnitSpec};
-pub use tables_law::tables_agree;
+pub use request::{Command, Commands, UnitSpec};
+pub use tables_law::{tables_agree, tables_follow_directives};
 pub use unit::preprocess;
 pub use walk_law::{walk_has_an_answer, walk_has_one_answer};

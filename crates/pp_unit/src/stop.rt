@@ -3,7 +3,7 @@ ghost use Rattle.pp_unit.specs.Kinds.{ran_out};
 ghost use Rattle.pp_unit.specs.Stopping.{stopped, stop_answer, refused};
 
 use crate::fault::{PpFault, PpKind};
-use crate::within::Within;
+use crate::open_file::OpenFile;
 use mac_base::{Bytes, Frames, Place};
 use std::alloc::Global;
 
@@ -40,13 +40,13 @@ pub fn ran_out(alloc: Global) -> PpFault
     }
 }
 
-impl Within {
+impl OpenFile {
     /// A fault in a line of this file.
     pub fn refuse(self, alloc: Global, line: u64, what: PpKind) -> PpFault
         ensures { result ≡ refused self line what }
     {
         let PpKind::NoMemory = what else {
-            let Within {
+            let OpenFile {
                 frames,
                 path,
                 id: _,

@@ -86,7 +86,7 @@ fn put(text: &mut Vec<u8>, event: &Event) -> Result<(), NoMemory> {
     Ok(())
 }
 
-/// A unit whose primary file is `a.c`.
+/// A translation unit whose primary file is `a.c`.
 fn unit(alloc: Global, defines: &[&[u8]], undefs: &[&[u8]]) -> Result<UnitSpec, NoMemory> {
     let mut commands = Commands::new(alloc);
     for word in defines {
@@ -101,7 +101,7 @@ fn unit(alloc: Global, defines: &[&[u8]], undefs: &[&[u8]]) -> Result<UnitSpec, 
     })
 }
 
-/// The text of what the unit comes to: an event each, or the fault.
+/// The text of what the translation unit comes to: an event each, or the fault.
 fn said(alloc: Global, path: &mut SearchPath, spec: &UnitSpec) -> Result<Vec<u8>, Fail>
     requires { 0 < length (⟦<SearchPath as Headers>⟧.stores path.old) }
 {
@@ -122,7 +122,7 @@ fn said(alloc: Global, path: &mut SearchPath, spec: &UnitSpec) -> Result<Vec<u8>
     Ok(text)
 }
 
-/// Checks what a unit comes to, behind what is predefined.
+/// Checks what a translation unit comes to, after what is predefined.
 fn check_over(
     rt: &impl Abort,
     alloc: Global,
@@ -138,7 +138,7 @@ fn check_over(
     Ok(())
 }
 
-/// Checks what a unit comes to whose primary file is `a.c`, beside `p.h`, `t.h`, `d/u.h` and `d/q.h`.
+/// Checks what a translation unit comes to whose primary file is `a.c`, beside `p.h`, `t.h`, `d/u.h` and `d/q.h`.
 fn check(
     rt: &impl Abort,
     alloc: Global,

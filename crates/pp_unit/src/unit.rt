@@ -7,22 +7,22 @@ ghost use Rattle.pp_unit.specs.Files.{Includes, Walks};
 ghost use Rattle.pp_unit.specs.Stopping.{StopComesTo, StopFailed, with_marks};
 ghost use Rattle.pp_unit.specs.Walk.{IsWalked, StoreFailed, open_limit, outside};
 
-use crate::defining::{follow_commands, predefine};
+use crate::directives::define::{follow_commands, predefine};
+use crate::event_log::EventLog;
 use crate::fault::{PpFault, PpKind};
-use crate::record::Record;
-use crate::spec::UnitSpec;
+use crate::open_file::OpenFile;
+use crate::request::UnitSpec;
 use crate::stop::{Stop, in_line};
-use crate::walk::open;
-use crate::within::Within;
+use crate::walk::include_found;
 use mac_base::{Bytes, Events, Frames};
 use mac_io::{FileId, Headers};
 use std::alloc::Global;
 
 /// Where no file is open.
-fn outside(alloc: Global) -> Within
+fn outside(alloc: Global) -> OpenFile
     ensures { result ≡ outside }
 {
-    Within {
+    OpenFile {
         frames: Frames::new(alloc),
         path: Bytes::new(alloc),
         id: FileId {
@@ -32,12 +32,12 @@ fn outside(alloc: Global) -> Within
     }
 }
 
-/// What is predefined, and the words of the command behind it.
-fn begin(alloc: Global, spec: &UnitSpec) -> Result<Record, PpKind>
+/// What is predefined, and the words of the command after it.
+fn begin(alloc: Global, spec: &UnitSpec) -> Result<EventLog, PpKind>
     ensures { Answers RanOut result (all_commanded predefined spec.now.commands) }
 {
-    let so_far = predefine(alloc)?;
-    follow_commands(so_far, spec.commands.as_slice())
+    let log = predefine(alloc)?;
+    follow_commands(log, spec.commands.as_slice())
 }
 
 /// The same name as one of its own.
@@ -52,20 +52,20 @@ fn name_of(source: &Bytes) -> Result<Bytes, PpKind>
 fn walk_primary<P: Headers>(
     alloc: Global,
     path: &mut P,
-    so_far: Record,
-    outer: &Within,
+    log: EventLog,
+    outer: &OpenFile,
     source: &Bytes,
-) -> Result<Record, Stop>
+) -> Result<EventLog, Stop>
     requires store { 0 < length (P.stores path.old) }
     requires outside { outer.now ≡ outside }
-    ensures walked { StopComesTo outer.now (Includes (P.stores path.old) (Walks (P.stores path.old) open_limit) outer.now 0 source.now (record { store = 0; name = source.now } ∷ []) (with_marks so_far [])) result }
+    ensures walked { StopComesTo outer.now (Includes (P.stores path.old) (Walks (P.stores path.old) open_limit) outer.now 0 source.now (record { store = 0; name = source.now } ∷ []) (with_marks log [])) result }
     ensures same { P.stores path.new ≡ P.stores path.old }
     ensures cause { HasCause (P.count path.old) (P.count path.new) (StopFailed result) }
 {
     let name = in_line(0, name_of(source))?;
     let mut bytes = Vec::new(alloc);
     let located = path.primary(source.as_slice(), &mut bytes);
-    open(path, so_far, outer, 0, name, located, bytes.as_slice())
+    include_found(path, log, outer, 0, name, located, bytes.as_slice())
 }
 
 /// The events of a translation unit: what is predefined, the words of its command in order, and then its primary file
@@ -82,12 +82,12 @@ pub fn preprocess<P: Headers>(
     ensures cause { HasCause (P.count path.old) (P.count path.new) (StoreFailed result) }
 {
     let outer = outside(alloc);
-    let so_far = match begin(alloc, spec) {
-        Ok(so_far) => so_far,
+    let log = match begin(alloc, spec) {
+        Ok(log) => log,
         Err(what) => return Err(outer.refuse(alloc, 0, what)),
     };
-    match walk_primary(alloc, path, so_far, &outer, &spec.source) {
-        Ok(so_far) => Ok(so_far.into_events()),
+    match walk_primary(alloc, path, log, &outer, &spec.source) {
+        Ok(log) => Ok(log.into_events()),
         Err(stop) => Err(outer.stop(alloc, stop)),
     }
 }

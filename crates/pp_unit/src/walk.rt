@@ -1,24 +1,24 @@
 ghost use Rattle.std.specs.Prelude.{◌≡◌, ◌+◌, ◌<◌, ◌≤◌, ℕ, suc, true, false, not, List, [], length};
 ghost use Rattle.mac_io.specs.Causes.{HasCause};
 ghost use Rattle.mac_io.specs.Search.{OnFound};
-ghost use Rattle.pp_directives.specs.declared.open.Open.{Open};
+ghost use Rattle.pp_directives.specs.declared.conditional.open_section.OpenSection.{OpenSection};
 ghost use Rattle.pp_directives.specs.Conditions.{is_active};
 ghost use Rattle.pp_directives.specs.Directives.{directive_of};
 ghost use Rattle.pp_directives.specs.Groups.{role_of};
 ghost use Rattle.pp_directives.specs.Reached.{is_other};
 ghost use Rattle.pp_directives.specs.Running.{Runs};
 ghost use Rattle.pp_unit.specs.Seen.{Mark};
-ghost use Rattle.pp_unit.specs.Files.{ways, with_roles, Enters, IncludesFound, DoesInclude, Walks};
+ghost use Rattle.pp_unit.specs.Files.{ways, with_roles, Enters, IncludesFound, DoesInclude, Walks, last_number};
 ghost use Rattle.pp_unit.specs.Stopping.{FileComesTo, StopComesTo, LineRuns, HasLeft, StopFailed, FileFailed, with_marks};
 
-use crate::direct::follow_directive;
+use crate::directives::classify::{classify_line, is_include};
+use crate::directives::direct::follow_directive;
+use crate::directives::header::HeaderName;
+use crate::directives::include::{found_in, header_of, included};
+use crate::event_log::EventLog;
 use crate::fault::{PpFault, PpKind};
-use crate::header::HeaderName;
-use crate::open::{found_in, header_of, included, is_include, last_number};
-use crate::passing::acting;
-use crate::record::Record;
+use crate::open_file::OpenFile;
 use crate::stop::{Stop, in_line};
-use crate::within::Within;
 use mac_base::Bytes;
 use mac_io::{FileId, Headers, Located};
 use pp_directives::{Conditions, Directive, StructFault};
@@ -27,32 +27,43 @@ use pp_tokens::Line;
 /// The most files that are open at once.
 const OPEN_LIMIT: usize = 200;
 
-/// Walks a file that is open, from behind its start to its end.
+/// The number of the last line, 0 where there is none.
+fn last_number(lines: &[Line]) -> u64
+    ensures { result ≡ last_number 0 lines.now }
+{
+    let mut number = 0;
+    for line in lines {
+        number = line.number;
+    }
+    number
+}
+
+/// Walks a file that is open, from after its start to its end.
 #[cycle(walk)]
 pub fn walk_file<P: Headers>(
     path: &mut P,
-    so_far: Record,
-    within: Within,
+    log: EventLog,
+    open_file: OpenFile,
     bytes: &[u8],
-) -> Result<Record, PpFault>
-    requires store { within.id.store < length (P.stores path.old) }
-    requires room { length within.frames ≤ 200 }
-    ensures walked { (left : ℕ) (marks : List Mark) → HasLeft left within → FileComesTo (Walks (P.stores path.old) (suc left) within bytes.now (with_marks so_far marks)) result }
+) -> Result<EventLog, PpFault>
+    requires store { open_file.id.store < length (P.stores path.old) }
+    requires room { length open_file.frames ≤ 200 }
+    ensures walked { (left : ℕ) (marks : List Mark) → HasLeft left open_file → FileComesTo (Walks (P.stores path.old) (suc left) open_file bytes.now (with_marks log marks)) result }
     ensures same { P.stores path.new ≡ P.stores path.old }
     ensures cause { HasCause (P.count path.old) (P.count path.new) (FileFailed result) }
 {
-    let alloc = so_far.alloc();
-    let mut so_far = so_far;
-    let lines = match so_far.lines_of(within.path.as_slice(), bytes) {
+    let alloc = log.alloc();
+    let mut log = log;
+    let lines = match log.lines_of(open_file.path.as_slice(), bytes) {
         Ok(lines) => lines,
-        Err((line, what)) => return Err(within.refuse(alloc, line, what)),
+        Err((line, what)) => return Err(open_file.refuse(alloc, line, what)),
     };
-    match follow_lines(path, so_far, &within, lines.as_slice()) {
-        Ok(so_far) => match so_far.end() {
-            Ok(so_far) => Ok(so_far),
-            Err(what) => Err(within.refuse(alloc, last_number(lines.as_slice()), what)),
+    match follow_lines(path, log, &open_file, lines.as_slice()) {
+        Ok(log) => match log.end() {
+            Ok(log) => Ok(log),
+            Err(what) => Err(open_file.refuse(alloc, last_number(lines.as_slice()), what)),
         },
-        Err(stop) => Err(within.stop(alloc, stop)),
+        Err(stop) => Err(open_file.stop(alloc, stop)),
     }
 }
 
@@ -60,27 +71,27 @@ pub fn walk_file<P: Headers>(
 #[cycle(walk)]
 fn follow_lines<P: Headers>(
     path: &mut P,
-    so_far: Record,
-    within: &Within,
+    log: EventLog,
+    open_file: &OpenFile,
     lines: &[Line],
-) -> Result<Record, Stop>
-    requires store { within.now.id.store < length (P.stores path.old) }
-    requires room { length within.now.frames ≤ 200 }
-    ensures run { (left : ℕ) (marks : List Mark) → HasLeft left within.now → StopComesTo within.now (Runs (ways (P.stores path.old) left (Walks (P.stores path.old) left) within.now) [] (with_roles lines.now) (with_marks so_far marks)) result }
+) -> Result<EventLog, Stop>
+    requires store { open_file.now.id.store < length (P.stores path.old) }
+    requires room { length open_file.now.frames ≤ 200 }
+    ensures run { (left : ℕ) (marks : List Mark) → HasLeft left open_file.now → StopComesTo open_file.now (Runs (ways (P.stores path.old) left (Walks (P.stores path.old) left) open_file.now) [] (with_roles lines.now) (with_marks log marks)) result }
     ensures same { P.stores path.new ≡ P.stores path.old }
     ensures cause { HasCause (P.count path.old) (P.count path.new) (StopFailed result) }
 {
-    let mut so_far = so_far;
-    let mut pending = Conditions::new(so_far.alloc());
+    let mut log = log;
+    let mut pending = Conditions::new(log.alloc());
     for line in lines {
-        let acts = acting(&so_far, within, &mut pending, line)?;
+        let acts = classify_line(&log, open_file, &mut pending, line)?;
         let Some(directive) = acts else {
             continue;
         };
-        so_far = follow_line(path, so_far, within, line, &directive)?;
+        log = follow_line(path, log, open_file, line, &directive)?;
     }
     match pending.open_line() {
-        None => Ok(so_far),
+        None => Ok(log),
         Some(line) => Err(Stop::Here {
             line,
             what: PpKind::Struct(StructFault::OpenIf),
@@ -92,25 +103,25 @@ fn follow_lines<P: Headers>(
 #[cycle(walk)]
 fn follow_line<P: Headers>(
     path: &mut P,
-    so_far: Record,
-    within: &Within,
+    log: EventLog,
+    open_file: &OpenFile,
     line: &Line,
     directive: &Directive,
-) -> Result<Record, Stop>
-    requires store { within.now.id.store < length (P.stores path.old) }
-    requires room { length within.now.frames ≤ 200 }
+) -> Result<EventLog, Stop>
+    requires store { open_file.now.id.store < length (P.stores path.old) }
+    requires room { length open_file.now.frames ≤ 200 }
     requires known { directive.now ≡ directive_of line.now.tokens }
     requires other { not (is_other (role_of directive.now)) ≡ false }
-    ensures step { (pending : List Open) → is_active pending ≡ true → (left : ℕ) (marks : List Mark) → HasLeft left within.now → LineRuns (ways (P.stores path.old) left (Walks (P.stores path.old) left) within.now) within.now pending line.now (with_marks so_far marks) result pending }
+    ensures step { (pending : List OpenSection) → is_active pending ≡ true → (left : ℕ) (marks : List Mark) → HasLeft left open_file.now → LineRuns (ways (P.stores path.old) left (Walks (P.stores path.old) left) open_file.now) open_file.now pending line.now (with_marks log marks) result pending }
     ensures same { P.stores path.new ≡ P.stores path.old }
     ensures cause { HasCause (P.count path.old) (P.count path.new) (StopFailed result) }
 {
     if is_include(directive) {
-        return include(path, so_far, within, line);
+        return include(path, log, open_file, line);
     }
     in_line(
         line.number,
-        follow_directive(so_far, within, line, directive),
+        follow_directive(log, open_file, line, directive),
     )
 }
 
@@ -119,30 +130,30 @@ fn follow_line<P: Headers>(
 #[inline(never)]
 fn include<P: Headers>(
     path: &mut P,
-    so_far: Record,
-    within: &Within,
+    log: EventLog,
+    open_file: &OpenFile,
     line: &Line,
-) -> Result<Record, Stop>
-    requires store { within.now.id.store < length (P.stores path.old) }
-    requires room { length within.now.frames ≤ 200 }
-    ensures included { (left : ℕ) (marks : List Mark) → HasLeft left within.now → StopComesTo within.now (DoesInclude (P.stores path.old) left (Walks (P.stores path.old) left) within.now line.now (with_marks so_far marks)) result }
+) -> Result<EventLog, Stop>
+    requires store { open_file.now.id.store < length (P.stores path.old) }
+    requires room { length open_file.now.frames ≤ 200 }
+    ensures included { (left : ℕ) (marks : List Mark) → HasLeft left open_file.now → StopComesTo open_file.now (DoesInclude (P.stores path.old) left (Walks (P.stores path.old) left) open_file.now line.now (with_marks log marks)) result }
     ensures same { P.stores path.new ≡ P.stores path.old }
     ensures cause { HasCause (P.count path.old) (P.count path.new) (StopFailed result) }
 {
-    let header = in_line(line.number, header_of(&so_far, within, line))?;
-    if within.frames.len() >= OPEN_LIMIT {
+    let header = in_line(line.number, header_of(&log, open_file, line))?;
+    if open_file.frames.len() >= OPEN_LIMIT {
         return Err(Stop::Here {
             line: line.number,
             what: PpKind::IncludeDepth,
         });
     }
     let HeaderName { form, name } = header;
-    let mut bytes = Vec::new(so_far.alloc());
-    let located = path.find(&within.id, form, name.as_slice(), &mut bytes);
-    open(
+    let mut bytes = Vec::new(log.alloc());
+    let located = path.find(&open_file.id, form, name.as_slice(), &mut bytes);
+    include_found(
         path,
-        so_far,
-        within,
+        log,
+        open_file,
         line.number,
         name,
         located,
@@ -152,18 +163,18 @@ fn include<P: Headers>(
 
 /// Goes on by what a search found.
 #[cycle(walk)]
-pub fn open<P: Headers>(
+pub fn include_found<P: Headers>(
     path: &mut P,
-    so_far: Record,
-    outer: &Within,
+    log: EventLog,
+    outer: &OpenFile,
     line: u64,
     name: Bytes,
     located: Located,
     bytes: &[u8],
-) -> Result<Record, Stop>
+) -> Result<EventLog, Stop>
     requires store { OnFound located (λ id. id.store < length (P.stores path.old)) }
     requires room { length outer.now.frames < 200 }
-    ensures opened { (left : ℕ) (marks : List Mark) → HasLeft (suc left) outer.now → StopComesTo outer.now (IncludesFound (P.stores path.old) (Walks (P.stores path.old) (suc left)) outer.now line name (with_marks so_far marks) located bytes.now) result }
+    ensures opened { (left : ℕ) (marks : List Mark) → HasLeft (suc left) outer.now → StopComesTo outer.now (IncludesFound (P.stores path.old) (Walks (P.stores path.old) (suc left)) outer.now line name (with_marks log marks) located bytes.now) result }
     ensures same { P.stores path.new ≡ P.stores path.old }
     ensures cause { (before : ℕ) → HasCause before (P.count path.old) (located ≡ Located.Failed) → HasCause before (P.count path.new) (StopFailed result) }
 {
@@ -171,32 +182,32 @@ pub fn open<P: Headers>(
         Ok(id) => id,
         Err(what) => return Err(Stop::Here { line, what }),
     };
-    if so_far.is_once(&id) {
-        return Ok(so_far);
+    if log.is_once(&id) {
+        return Ok(log);
     }
-    enter(path, so_far, outer, line, id, bytes)
+    enter(path, log, outer, line, id, bytes)
 }
 
 /// A file that was found begins, and is walked.
 #[cycle(walk)]
 fn enter<P: Headers>(
     path: &mut P,
-    so_far: Record,
-    outer: &Within,
+    log: EventLog,
+    outer: &OpenFile,
     line: u64,
     id: FileId,
     bytes: &[u8],
-) -> Result<Record, Stop>
+) -> Result<EventLog, Stop>
     requires store { id.store < length (P.stores path.old) }
     requires room { length outer.now.frames < 200 }
-    ensures entered { (left : ℕ) (marks : List Mark) → HasLeft (suc left) outer.now → StopComesTo outer.now (Enters (P.stores path.old) (Walks (P.stores path.old) (suc left)) outer.now line id bytes.now (with_marks so_far marks)) result }
+    ensures entered { (left : ℕ) (marks : List Mark) → HasLeft (suc left) outer.now → StopComesTo outer.now (Enters (P.stores path.old) (Walks (P.stores path.old) (suc left)) outer.now line id bytes.now (with_marks log marks)) result }
     ensures same { P.stores path.new ≡ P.stores path.old }
     ensures cause { HasCause (P.count path.old) (P.count path.new) (StopFailed result) }
 {
-    let within = in_line(line, included(path, &so_far, outer, line, id))?;
-    let so_far = in_line(line, so_far.start(line, within.path.as_slice()))?;
-    match walk_file(path, so_far, within, bytes) {
-        Ok(so_far) => Ok(so_far),
+    let open_file = in_line(line, included(path, &log, outer, line, id))?;
+    let log = in_line(line, log.start(line, open_file.path.as_slice()))?;
+    match walk_file(path, log, open_file, bytes) {
+        Ok(log) => Ok(log),
         Err(fault) => Err(Stop::Inside(fault)),
     }
 }

@@ -15,14 +15,14 @@ returns-in-Err-clause-cause g c =
 
 pub returns-in-Ok-walk_primary-clause-walked : goal.returns-in-Ok-walk_primary-clause-walked
 returns-in-Ok-walk_primary-clause-walked g c =
-    unit_ends (g.P.Headers.stores c.args.path.now) c.args.spec.now c.outside-outer.result c.in-Ok.so_far c.in-Ok-walk_primary.so_far c.into_events.result c.outside-outer.ensures c.in-Ok.ensures c.in-Ok-walk_primary.ensures.walked c.into_events.ensures
+    unit_ends (g.P.Headers.stores c.args.path.now) c.args.spec.now c.outside-outer.result c.in-Ok.log c.in-Ok-walk_primary.log c.into_events.result c.outside-outer.ensures c.in-Ok.ensures c.in-Ok-walk_primary.ensures.walked c.into_events.ensures
 
 pub returns-in-Ok-walk_primary-clause-cause : goal.returns-in-Ok-walk_primary-clause-cause
 returns-in-Ok-walk_primary-clause-cause g c = c.in-Ok-walk_primary.ensures.cause
 
 pub returns-in-Err-walk_primary-clause-walked : goal.returns-in-Err-walk_primary-clause-walked
 returns-in-Err-walk_primary-clause-walked g c =
-    unit_stops (g.P.Headers.stores c.args.path.now) c.args.spec.now c.outside-outer.result c.in-Ok.so_far c.in-Err-walk_primary.stop c.stop.result c.outside-outer.ensures c.in-Ok.ensures c.in-Err-walk_primary.ensures.walked c.stop.ensures
+    unit_stops (g.P.Headers.stores c.args.path.now) c.args.spec.now c.outside-outer.result c.in-Ok.log c.in-Err-walk_primary.stop c.stop.result c.outside-outer.ensures c.in-Ok.ensures c.in-Err-walk_primary.ensures.walked c.stop.ensures
 
 pub returns-in-Err-walk_primary-clause-cause : goal.returns-in-Err-walk_primary-clause-cause
 returns-in-Err-walk_primary-clause-cause g c =

@@ -1,7 +1,0 @@
-use Rattle.std.proofs.Common.{◌≡◌, drop}
-use Rattle.pp_directives.specs.Values.{symbols_of}
-use Rattle.pp_directives.proofs.SymbolLemmas.{behind}
-use Rattle.pp_directives.proofs.symbols.symbols.Given as goal
-
-abbrev pub invariant-loop-token : goal.invariant-loop-token
-invariant-loop-token l = behind l.found.items (symbols_of (drop l.token-index l.tokens)) ≡ symbols_of l.tokens

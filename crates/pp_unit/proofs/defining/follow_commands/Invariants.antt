@@ -1,6 +1,0 @@
-use Rattle.std.proofs.Common.{◌≡◌, drop}
-use Rattle.pp_unit.specs.Definitions.{all_commanded}
-use Rattle.pp_unit.proofs.defining.follow_commands.Given as goal
-
-abbrev pub invariant-loop-command : goal.invariant-loop-command
-invariant-loop-command l = all_commanded l.so_far (drop l.command-index l.commands) ≡ all_commanded l.fn.so_far l.commands

@@ -1,0 +1,8 @@
+use Rattle.pp_unit.proofs.EventLogLemmas.{sound_undefined}
+use Rattle.pp_unit.proofs.event_log.EventLog.undef.Goals as goal
+
+pub invariant_of-result : goal.invariant_of-result
+invariant_of-result c =
+    let inside = c.self.inside in
+    sound_undefined inside.list c.push.new.self inside.files inside.once c.args.self c.args.line c.args.name c.as_slice.result.now c.len-long.result inside.text inside.table c.undef.new.self
+    c.self.view_is c.in_ok-admit.ensures.few c.in_ok-admit.ensures.fits c.self.invariant c.in_ok-push.ensures.ok c.len-long.ensures c.undef.ensures c.as_slice.ensures

@@ -1,6 +1,0 @@
-use Rattle.std.proofs.Common.{◌≡◌, drop}
-use Rattle.pp_unit.specs.Files.{last_number}
-use Rattle.pp_unit.proofs.open.last_number.Given as goal
-
-abbrev pub invariant-loop-line : goal.invariant-loop-line
-invariant-loop-line l = last_number l.number (drop l.line-index l.lines) ≡ last_number 0 l.lines
