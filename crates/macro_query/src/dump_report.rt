@@ -17,7 +17,9 @@ use crate::roots::{graph_of, path_of, roots_of};
 use crate::sections::sections_of;
 use import_graph::{Graph, Spliced};
 use info_roots::Root;
-use mac_base::{Bytes, NoMemory, ReportBuilder, Sections, push_bytes, push_item, push_number, push_text};
+use mac_base::{
+    Bytes, NoMemory, ReportBuilder, Sections, push_bytes, push_item, push_number, push_text,
+};
 use std::alloc::Global;
 
 /// All roots of an ELF file in their order, each with its entries, where imported units stand in their places, or the
@@ -106,7 +108,11 @@ fn add_entries(report: &mut ReportBuilder, graph: &Graph<'_>) -> Result<(), NoMe
 }
 
 /// Adds the line of an entry.
-fn add_entry(report: &mut ReportBuilder, graph: &Graph<'_>, entry: Spliced<'_>) -> Result<(), NoMemory>
+fn add_entry(
+    report: &mut ReportBuilder,
+    graph: &Graph<'_>,
+    entry: Spliced<'_>,
+) -> Result<(), NoMemory>
     ensures { OnOk result ((whole : List ℕ) → Tells report.old.is_long report.old.text.items whole
         → Tells report.new.is_long report.new.text.items (whole ++ item_line (named_item graph.now.paths entry.entry))) }
 {

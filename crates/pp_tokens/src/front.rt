@@ -238,7 +238,14 @@ pub fn piece(
         return None;
     };
     if first == b'\n' {
-        return Some((if lines { PieceKind::LineEnd } else { PieceKind::Blank }, 1));
+        return Some((
+            if lines {
+                PieceKind::LineEnd
+            } else {
+                PieceKind::Blank
+            },
+            1,
+        ));
     }
     if is_blank(first) {
         return Some((PieceKind::Blank, 1));

@@ -101,7 +101,12 @@ fn step(
 }
 
 /// What is known of the quotes after a piece that began with this byte.
-fn known_after(quotes: QuoteScan, first: Option<u8>, what: PieceKind, chars: &Chars<'_>) -> QuoteScan
+fn known_after(
+    quotes: QuoteScan,
+    first: Option<u8>,
+    what: PieceKind,
+    chars: &Chars<'_>,
+) -> QuoteScan
     requires { IsKnown quotes.single quotes.double (bytes_of chars.now) }
     ensures { IsKnown result.single result.double (bytes_of chars.now) }
 {
