@@ -10,7 +10,7 @@ use Rattle.dwmac_run.specs.declared.options.UnitWords.{UnitWords}
 use Rattle.dwmac_run.specs.Options.{no_words, unit_words, is_file_word, is_name_word}
 use Rattle.dwmac_run.specs.declared.command.Command.{Command as HeldCommand}
 use Rattle.dwmac_run.specs.Command.{Command, plain, Raw, UnitAt, Dump, Info, ListAt, Expand, Once, Help, Version, command_of, command_of_one, command_of_two, command_of_three, command_of_four, fixed_command, known_position, info_of, offset_of, events_of, events_by, folders_of, labels_by, labels_of, most_folders}
-use Rattle.pp_unit.specs.declared.spec.Command.{Command as MacroWord}
+use Rattle.pp_unit.specs.declared.request.Command.{Command as MacroWord}
 
 -- few folders, where there is a command
 abbrev Few : Option Command → Type 0

@@ -1,6 +1,6 @@
 -- A unit has an answer over any stores, and over those that tell their files no other.
 use Rattle.std.proofs.Common.{◌≡◌, ◌<◌, length, Result, Ok, Err, refl, subst, ◌∙◌, sym}
-use Rattle.pp_unit.specs.declared.spec.UnitSpec.{UnitSpec}
+use Rattle.pp_unit.specs.declared.request.UnitSpec.{UnitSpec}
 use Rattle.pp_unit.specs.declared.fault.PpFault.{PpFault}
 use Rattle.pp_unit.specs.declared.fault.PpKind.{PpKind}
 use Rattle.pp_unit.specs.declared.fault.PpKind.TheVariants.{Lex, Def, Predefined, Redefined, Directive, Expr, Expand, Struct, NoSuchFile, BadInclude, IncludeDepth, ErrorDirective, BadLine, SourceTooLong, TooManyEvents, TooMuchText, StoreFault, NoMemory}

@@ -7,8 +7,8 @@ use Rattle.dwmac_run.specs.declared.command.Command.TheVariants.{Raw as HeldRaw,
 use Rattle.position_table.specs.declared.position.Position.{Position}
 use Rattle.position_table.specs.declared.position.Position.TheVariants.{Chain, Named}
 use Rattle.position_table.specs.Positions.{position_of}
-use Rattle.pp_unit.specs.declared.spec.Command.{Command as MacroWord}
-use Rattle.pp_unit.specs.declared.spec.UnitSpec.{UnitSpec}
+use Rattle.pp_unit.specs.declared.request.Command.{Command as MacroWord}
+use Rattle.pp_unit.specs.declared.request.UnitSpec.{UnitSpec}
 use Rattle.dwmac_run.specs.declared.options.UnitWords.{UnitWords}
 use Rattle.dwmac_run.specs.Options.{no_words, unit_words, is_file_word, is_name_word}
 

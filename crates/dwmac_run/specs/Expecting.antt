@@ -1,6 +1,6 @@
 -- How the words of a command are read one after another, by what the next one is.
 use Rattle.std.specs.Prelude.{ℕ, List, Option, Some, None}
-use Rattle.pp_unit.specs.declared.spec.Command.TheVariants.{Define, Undef}
+use Rattle.pp_unit.specs.declared.request.Command.TheVariants.{Define, Undef}
 use Rattle.dwmac_run.specs.declared.options.UnitWords.{UnitWords}
 use Rattle.dwmac_run.specs.declared.options.UnitOption.{UnitOption}
 use Rattle.dwmac_run.specs.declared.options.UnitOption.TheVariants.{Folder, Define as DefineOption, Undef as UndefOption}

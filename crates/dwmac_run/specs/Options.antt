@@ -2,8 +2,8 @@
 use Rattle.std.specs.Prelude.{ℕ, Bool, false, ◌==◌, ◌&&◌, not, if◌then◌else◌, List, [], ◌∷◌, ◌++◌, codes, Option, Some, None}
 use Rattle.std.specs.List.{list_any}
 use Rattle.std.specs.Str.{bytes_eq}
-use Rattle.pp_unit.specs.declared.spec.Command.{Command as MacroWord}
-use Rattle.pp_unit.specs.declared.spec.Command.TheVariants.{Define, Undef}
+use Rattle.pp_unit.specs.declared.request.Command.{Command as MacroWord}
+use Rattle.pp_unit.specs.declared.request.Command.TheVariants.{Define, Undef}
 use Rattle.dwmac_run.specs.declared.options.UnitWords.{UnitWords}
 
 -- A word that names a file is not empty, holds no NUL, and doesn't begin with `-` as options do.

@@ -5,7 +5,7 @@ use Rattle.mac_io.specs.Files.{Files}
 use Rattle.import_graph.specs.Graph.{named}
 use Rattle.mac_base.specs.ReportText.{most_report}
 use Rattle.mac_base.specs.ItemLines.{item_lines}
-use Rattle.pp_unit.specs.declared.spec.UnitSpec.{UnitSpec}
+use Rattle.pp_unit.specs.declared.request.UnitSpec.{UnitSpec}
 use Rattle.pp_unit.specs.declared.fault.PpFault.{PpFault}
 use Rattle.pp_unit.specs.declared.fault.PpKind.{PpKind}
 use Rattle.pp_unit.specs.declared.fault.PpKind.TheVariants.{StoreFault, NoMemory}
