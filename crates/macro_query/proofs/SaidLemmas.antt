@@ -1,5 +1,5 @@
 -- Nothing that is to be said to a query is want of memory.
-use Rattle.std.proofs.Common.{◌≡◌, ℕ, Bool, true, false, List, [], ◌∷◌, Option, Some, None, Result, Ok, Err, subst, sym}
+use Rattle.std.proofs.Common.{◌≡◌, ℕ, ◌+◌, Bool, true, false, List, [], ◌∷◌, Option, Some, None, Result, Ok, Err, subst, sym}
 use Rattle.std.specs.Prelude.{nat_lt, length, slice_get}
 use Rattle.std.specs.Bool.{MatchBool}
 use Rattle.mac_base.specs.SectionBytes.{SectionBytes}
@@ -55,10 +55,10 @@ along {A} said other is plain = subst (λ (r : Result A QueryFault). Plain r) (s
 no_memory : {A : Type 0} (said : Result A QueryFault) → Plain said → said ≡ Err RanOut → ⊥
 no_memory {A} said plain is = subst (λ (r : Result A QueryFault). Plain r) is plain
 
-plain_file : (fault : FileFault) {A : Type 0} → IsTold fault → Plain {A = A} (Err (file_fault fault))
-plain_file (InLine fault) told = tt
-plain_file (InUnit fault) told = tt
-plain_file FileRanOut told = told
+plain_file : (A : Type 0) (fault : FileFault) → IsTold fault → Plain {A = A} (Err (file_fault fault))
+plain_file A (InLine fault) told = tt
+plain_file A (InUnit fault) told = tt
+plain_file A FileRanOut told = told
 
 plain_unit : (strs : Option (List ℕ)) (section : List ℕ) (offset : ℕ) → AllPlain (UnitSays strs section offset)
 plain_unit strs section offset (Ok text) is = tt
@@ -97,7 +97,7 @@ plain_joined front (Err fault) plain = plain
 
 plain_then : (s : SectionBytes) (root : Root) (first : Result (List (Item (List ℕ))) FileFault) (lines : List (Item (List ℕ)) → List ℕ) (More : Result (List ℕ) QueryFault → Type 0) → RootSays s root first → AllPlain More → AllPlain (ThenSays first lines More)
 plain_then s root (Ok items) lines More says plain said is = along said (joined (lines items) is.0) is.2 (plain_joined (lines items) is.0 (plain is.0 is.1))
-plain_then s root (Err fault) lines More says plain said is = along said (Err (file_fault fault)) is (plain_file fault (first_is_told s root fault says))
+plain_then s root (Err fault) lines More says plain said is = along said (Err (file_fault fault)) is (plain_file (List ℕ) fault (first_is_told s root fault says))
 
 plain_dump : (s : SectionBytes) (n : ℕ) (roots : List Root) → AllPlain (DumpOf s n roots)
 plain_dump s n [] said is = along said (Ok []) is tt
@@ -109,7 +109,7 @@ plain_chain_by (Err depth) = tt
 
 plain_scope : (s : SectionBytes) (root : Root) (lines : List ℕ) (line : ℕ) (first : Result (List (Item (List ℕ))) FileFault) → RootSays s root first → Plain (scope_by lines line first)
 plain_scope s root lines line (Ok items) says = plain_chain_by (chain_scope items lines line)
-plain_scope s root lines line (Err fault) says = plain_file fault (first_is_told s root fault says)
+plain_scope s root lines line (Err fault) says = plain_file Scope fault (first_is_told s root fault says)
 
 plain_chain : (root : Option Root) (lines : List ℕ) (line : ℕ) (s : SectionBytes) → AllPlain (ChainLeads root lines line s)
 plain_chain None lines line s found is = along found (Err NoSuchUnit) is tt
@@ -121,7 +121,7 @@ plain_found None More plain found is = plain found is
 
 plain_in_root : (s : SectionBytes) (root : Root) (path : List ℕ) (line : ℕ) (first : Result (List (Item (List ℕ))) FileFault) (More : Result Scope QueryFault → Type 0) → RootSays s root first → AllPlain More → AllPlain (InRoot path line first More)
 plain_in_root s root path line (Ok items) More says plain found is = plain_found (path_scope items path line) More plain found is
-plain_in_root s root path line (Err fault) More says plain found is = along found (Err (file_fault fault)) is (plain_file fault (first_is_told s root fault says))
+plain_in_root s root path line (Err fault) More says plain found is = along found (Err (file_fault fault)) is (plain_file Scope fault (first_is_told s root fault says))
 
 plain_named : (path : List ℕ) (line : ℕ) (s : SectionBytes) (roots : List Root) → AllPlain (NamedLeads path line s roots)
 plain_named path line s [] found is = along found _ is tt

@@ -19,4 +19,4 @@ returns-in_err-spot-clause-err c =
 
 pub returns-clause-ok : goal.returns-clause-ok
 returns-clause-ok c =
-    chain_found (bytes_of c.args.s.now) c.args.root.now c.in_ok-graph.graph c.args.lines.now c.args.line c.in_ok-spot.spot c.in_ok-file.file c.in_ok-file.table c.in_ok-graph.ensures.ok c.in_ok-spot.ensures c.in_ok-file.ensures.file c.in_ok-file.ensures.table
+    chain_found (bytes_of c.args.s.now) c.args.root.now c.in_ok-graph.graph c.args.lines.now c.args.line c.in_ok-spot.spot c.in_ok-file.field-0.file c.in_ok-file.field-0.table c.in_ok-graph.ensures.ok c.in_ok-spot.ensures c.in_ok-file.ensures.file c.in_ok-file.ensures.table

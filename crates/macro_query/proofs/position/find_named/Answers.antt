@@ -18,7 +18,7 @@ returns-in_err-graph-clause-err c =
 
 pub returns-in-Some-2-clause-ok : goal.returns-in-Some-2-clause-ok
 returns-in-Some-2-clause-ok c =
-    named_found (bytes_of c.args.s.now) c.args.path.now c.args.line c.args.roots.now c.in-Some.root.now c.in-Some.behind.now c.in_ok-graph.graph c.in-Some-2.start c.in_ok-file.file c.in_ok-file.table
+    named_found (bytes_of c.args.s.now) c.args.path.now c.args.line c.args.roots.now c.in-Some.root.now c.in-Some.behind.now c.in_ok-graph.graph c.in-Some-2.start c.in_ok-file.field-0.file c.in_ok-file.field-0.table
     (passes (goal.at.returns-in-Some-2-clause-ok c).In-Some) c.in_ok-graph.ensures.ok (sym c.in_ok-start.ensures ∙ c.in-Some-2.is) c.in_ok-file.ensures.file c.in_ok-file.ensures.table
 
 pub loop-root-preserved : goal.loop-root-preserved
