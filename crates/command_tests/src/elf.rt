@@ -7,7 +7,7 @@ const NAMES: &[u8] = b"\x00.debug_macro\x00.debug_str\x00.shstrtab\x00";
 const ALL_NAMES: &[u8] =
     b"\x00.debug_macro\x00.debug_str\x00.debug_str_offsets\x00.debug_line\x00.debug_info\x00.debug_abbrev\x00.shstrtab\x00";
 
-/// A section: where its name stands, its type and its bytes.
+/// A section: where its name begins, its type and its bytes.
 #[derive(Clone, Copy)]
 struct Section<'a> {
     name: u64,
@@ -92,7 +92,7 @@ fn laid_out(alloc: Global, sections: &[Section<'_>]) -> Result<Vec<u8>, AllocErr
     Ok(file)
 }
 
-/// Appends the table of sections, which lie one behind another from 64 on.
+/// Appends the table of sections, which lie one after another from 64 on.
 fn put_table(file: &mut Vec<u8>, sections: &[Section<'_>]) -> Result<(), AllocError> {
     put_section(file, [0, 0, 0, 0])?;
     let mut offset = 64u64;

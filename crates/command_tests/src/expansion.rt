@@ -12,7 +12,7 @@ fn defined(alloc: Global, entries: &[u8]) -> Result<Vec<u8>, AllocError> {
     bare(alloc, macros.as_slice())
 }
 
-/// Runs a command on a text at line 1 of a file in front of which these entries stand, which is to print this.
+/// Runs a command on a text at line 1 of a file whose macro unit begins with these entries, which is to print this.
 fn gives(
     rt: &impl Abort,
     alloc: Global,
@@ -216,7 +216,7 @@ fn nested_calls_take_no_stack(rt: HostRuntime) -> Result<(), Fail> {
     )
 }
 
-/// A name for each level, which stands twice for the level below it.
+/// A name for each level, which is twice the level below it.
 fn doublings(alloc: Global) -> Result<Vec<u8>, AllocError> {
     let mut entries = Vec::from_slice(alloc, b"\x01\0A x x\0")?;
     for level in b'A'..b'U' {

@@ -25,7 +25,7 @@ pub struct UnitCase<'a> {
     pub words: &'a [&'a [u8]],
     pub folders: &'a [Folder<'a>],
     pub status: Status,
-    /// What `out` has behind the lines of the macros that are predefined.
+    /// What `out` has after the lines of the macros that are predefined.
     pub out: &'a [u8],
     pub err: &'a [u8],
 }

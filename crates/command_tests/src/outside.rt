@@ -39,7 +39,7 @@ fn a_failing_shelf_or_sink_ends_the_run(rt: HostRuntime) -> Result<(), Fail> {
         },
         Case {
             err_fails: &[2],
-            err: b"dwmac: dwmac: outside fault\n",
+            err: b"dwmac:dwmac: outside fault\n",
             ..no_unit
         },
         Case {

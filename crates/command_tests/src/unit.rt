@@ -2,10 +2,10 @@ use crate::elf::linked;
 use crate::stage::{check, prints, refuses};
 use std::test::Fail;
 
-/// A unit with one entry, whose text stands at 4 of the string section.
+/// A unit with one entry, whose text is at 4 of the string section.
 const MACROS: &[u8] = b"\x05\x00\x00\x05\x07\x04\x00\x00\x00\x00";
 
-/// The same, whose text would stand behind the string section.
+/// The same, whose text would be after the string section.
 const FAR: &[u8] = b"\x05\x00\x00\x05\x07\x08\x00\x00\x00\x00";
 
 const STRS: &[u8] = b"A 1\x00B 2\x00";

@@ -3,7 +3,7 @@ use crate::stage::{check, prints, refuses, usage};
 use std::alloc::{AllocError, Global};
 use std::test::Fail;
 
-/// A unit that defines A, and at 10 the root's, which imports it in the file that line 2 includes and undefines A behind.
+/// A unit that defines A, and at 10 the root's, which imports it in the file that line 2 includes and undefines A after it.
 const TWO_UNITS: &[u8] =
     b"\x05\0\0\x01\x01A 1\0\0\x05\0\x02\0\0\0\0\x03\0\0\x03\x02\x01\x07\0\0\0\0\x04\x02\x03A\0\x04\0";
 
@@ -11,22 +11,32 @@ const TWO_UNITS: &[u8] =
 const TWO_FILES: &[u8] =
     b"\x30\0\0\0\x05\0\x08\0\x28\0\0\0\x01\x01\x01\xfb\x0e\x0d\0\x01\x01\x01\x01\0\0\0\x01\0\0\x01\x01\x01\x08\x01.\0\x02\x01\x08\x02\x0f\x02m.c\0\0m.h\0\0";
 
-/// A root whose macro unit stands at 10, with a line table.
+/// A root whose macro unit is at 10, with a line table.
 const ROOT_AT_10: &[u8] = b"\x17\0\0\0\x05\0\x01\x08\0\0\0\0\x01m.c\0.\0\x0a\0\0\0\0\0\0\0";
 
-/// A root whose macro unit stands at 0, without a line table and a base of string offsets.
+/// A root whose macro unit is at 0, without a line table and a base of string offsets.
 const BARE_ROOT: &[u8] = b"\x13\0\0\0\x05\0\x01\x08\0\0\0\0\x03m.c\0.\0\0\0\0\0";
+
+/// Two such roots: m.c with its macro unit at 0, and n.c with its at 18.
+const TWO_ROOTS: &[u8] =
+    b"\x13\0\0\0\x05\0\x01\x08\0\0\0\0\x03m.c\0.\0\0\0\0\0\x13\0\0\0\x05\0\x01\x08\0\0\0\0\x03n.c\0.\0\x12\0\0\0";
+
+/// A unit that defines A in m.c, and at 18 one that defines B.
+const GOOD_SECOND: &[u8] = b"\x05\0\x02\0\0\0\0\x03\0\0\x01\x01A 1\0\x04\0\x05\0\0\x01\x02B 2\0\0";
+
+/// The first of these, and at 18 one that ends a file without a start.
+const BAD_SECOND: &[u8] = b"\x05\0\x02\0\0\0\0\x03\0\0\x01\x01A 1\0\x04\0\x05\0\0\x04\0";
 
 /// The four kinds of roots.
 const ABBREVS: &[u8] =
     b"\x01\x11\0\x03\x08\x1b\x08\x79\x17\x10\x17\0\0\x02\x11\0\x03\x08\x1b\x08\x79\x17\x10\x17\x72\x17\0\0\x03\x11\0\x03\x08\x1b\x08\x79\x17\0\0\x04\x11\0\x03\x08\x1b\x08\x79\x17\x72\x17\0\0\0";
 
-/// The file whose root undefines A behind the file that defines it.
+/// The file whose root undefines A after the file that defines it.
 pub fn two_units(alloc: Global) -> Result<Vec<u8>, AllocError> {
     whole(alloc, TWO_UNITS, TWO_FILES, ROOT_AT_10, ABBREVS)
 }
 
-/// A file whose root's unit stands at 0, without a line table of the root's.
+/// A file whose root's macro unit is at 0, without a line table of the root's.
 pub fn bare(alloc: Global, macros: &[u8]) -> Result<Vec<u8>, AllocError> {
     whole(alloc, macros, TWO_FILES, BARE_ROOT, ABBREVS)
 }
@@ -44,13 +54,39 @@ fn dump_puts_imported_units_in_their_places(rt: HostRuntime) -> Result<(), Fail>
 }
 
 #[test]
+fn dump_prints_each_root(rt: HostRuntime) -> Result<(), Fail> {
+    let file = whole(rt.alloc(), GOOD_SECOND, TWO_FILES, TWO_ROOTS, ABBREVS)?;
+    let out = b"root 0 m.c\nstart 0 m.c\ndefine 1 A 1\nend\nroot 1 n.c\ndefine 2 B 2\n".as_slice();
+    check(
+        &rt,
+        rt.alloc(),
+        &prints(&[b"dump", b"f"], b"f", file.as_slice(), out),
+    )
+}
+
+#[test]
+fn fault_of_the_second_root_leaves_the_first_readable(rt: HostRuntime) -> Result<(), Fail> {
+    let file = whole(rt.alloc(), BAD_SECOND, TWO_FILES, TWO_ROOTS, ABBREVS)?;
+    let err = b"dwmac: f: Unit EndWithoutStart at 0x15\n".as_slice();
+    for words in [
+        [b"dump".as_slice(), b"f"].as_slice(),
+        [b"list".as_slice(), b"f", b"1:1"].as_slice(),
+    ] {
+        check(&rt, rt.alloc(), &refuses(words, b"f", file.as_slice(), err))?;
+    }
+    let out = b"Defined at m.c:1\n#define A 1\n".as_slice();
+    let words = [b"info".as_slice(), b"f", b"0:2", b"A"];
+    check(&rt, rt.alloc(), &prints(&words, b"f", file.as_slice(), out))
+}
+
+#[test]
 fn info_and_list_answer_at_a_line(rt: HostRuntime) -> Result<(), Fail> {
     let file = two_units(rt.alloc())?;
     let bytes = file.as_slice();
-    let stands = b"Defined at m.h:1\n  included at m.c:2\n#define A 1\n".as_slice();
+    let defined = b"Defined at m.h:1\n  included at m.c:2\n#define A 1\n".as_slice();
     for (position, out) in [
-        (b"0:3".as_slice(), stands),
-        (b"0:2:2", stands),
+        (b"0:3".as_slice(), defined),
+        (b"0:2:2", defined),
         (b"0:4", b"A is not defined\n"),
         (b"0:0", b"A is not defined\n"),
     ] {
@@ -166,7 +202,7 @@ fn file_without_roots_has_nothing_to_dump(rt: HostRuntime) -> Result<(), Fail> {
     check(&rt, rt.alloc(), &case)
 }
 
-/// So many units of 14 bytes, each of which imports the next one twice, and one behind them.
+/// So many units of 14 bytes, each of which imports the next one twice, and one after them.
 fn doubled(alloc: Global, count: u32, last: &[u8]) -> Result<Vec<u8>, AllocError> {
     let mut macros = Vec::new(alloc);
     for index in 0..count {

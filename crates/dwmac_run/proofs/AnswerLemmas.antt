@@ -1,30 +1,34 @@
 -- Words and files have one answer, and a run ends as its answer does.
-use Rattle.std.proofs.Common.{◌≡◌, ℕ, ◌≤◌, ◌<◌, [], ◌∷◌, arith, Bool, true, false, ltb, List, length, Option, Some, None, Result, Ok, Err, inl, inr, refl, ap, subst, ◌∙◌, sym}
+use Rattle.std.proofs.Common.{◌≡◌, ℕ, ◌≤◌, ◌<◌, [], ◌∷◌, ◌++◌, arith, Bool, true, false, ltb, List, length, Option, Some, None, Result, Ok, Err, inl, inr, refl, ap, subst, ◌∙◌, sym}
 use Rattle.std.specs.Prelude.{IfSome}
 use Rattle.std.specs.Bool.{MatchBool}
 use Rattle.std.specs.FinMap as map
 use borrow.Author.Tests.{le-ltb, lt-ltb}
 use Rattle.mac_io.specs.Files.{Files, IsFileAt}
+use Rattle.mac_io.specs.Calls.{Fetches, FetchesFrom}
+use Rattle.mac_io.specs.declared.shelf.Fetched.TheVariants.{Found, Absent, TooLong}
 use Rattle.pp_unit.specs.Files.{Stores}
 use Rattle.std.specs.Option.{option_map}
 use Rattle.macro_query.specs.declared.fault.QueryFault.{QueryFault}
 use Rattle.macro_query.specs.declared.fault.QueryFault.TheVariants.{Elf as QueryElf, Info as QueryInfo, Line as QueryLine, Unit as QueryUnit, NoSuchUnit as QueryNoSuchUnit, Position as QueryPosition, Text as QueryText, Expand as QueryExpand, ReportTooLong, NoMemory as QueryRanOut}
 use Rattle.macro_query.specs.Limits.{within_limit, Answers}
-use Rattle.macro_query.specs.Queries.{RawSays, UnitAtSays, DumpSays, InfoSays, ListSays, ExpandSays, OnceSays}
 use Rattle.macro_query.specs.Laws.{One as OneSaid}
 use Rattle.macro_query.proofs.QueryLemmas.{one_raw, one_unit_at}
 use Rattle.macro_query.proofs.OneAnswerLemmas.{one_dump, one_info, one_list, one_expand, one_once}
 use Rattle.dwmac_run.specs.declared.refusal.Refusal.TheVariants.{NoSuchFile, FileTooLong}
-use Rattle.dwmac_run.specs.Command.{Command, Raw, UnitAt, Dump, Info, ListAt, Expand, Once, Events, Help, Version, command_of, folders_of, labels_by}
+use Rattle.dwmac_run.specs.declared.request.Request.{Request}
+use Rattle.dwmac_run.specs.declared.request.Request.TheVariants.{Query as Asks, Events, Help, Version}
+use Rattle.dwmac_run.specs.declared.request.Query.{Query}
+use Rattle.dwmac_run.specs.declared.request.Query.TheVariants.{Raw, Unit as UnitAt, Dump, Info, List as ListAt, Expand, Once}
+use Rattle.dwmac_run.specs.Command.{request_of, folders_of, labels_by}
 use Rattle.dwmac_run.specs.Roots.{labels, HasStores, IsPathFor}
 use Rattle.dwmac_run.specs.Help.{help_text, version_text}
 use Rattle.dwmac_run.specs.Refusals.{refusal_line}
 use Rattle.dwmac_run.specs.Answers.{Answer, Prints, Refuses, Misuse}
-use Rattle.dwmac_run.specs.Units.{AllTold}
 use Rattle.dwmac_run.proofs.UnitLemmas.{unit_once, unit_some}
-use Rattle.dwmac_run.specs.Answer.{answer_by, QueryAnswer, FileAnswer, NoFileAnswer, IsNoFile, AboutFile, AnswerTo, IsAnswer, most_bytes}
+use Rattle.dwmac_run.specs.Answer.{answer_by, QuerySays, QueryAnswer, FileAnswer, AboutFile, AnswerTo, IsAnswer, ReadsTold, IsTold, most_bytes}
 use Rattle.dwmac_run.specs.Leaves.{Texts, Leaves}
-use Rattle.dwmac_run.specs.Outcome.{told_by, Ends}
+use Rattle.dwmac_run.specs.Outcome.{query_answer, Ends}
 use Rattle.dwmac_run.specs.declared.status.Status.{Status}
 
 abbrev Said : Type 0
@@ -48,7 +52,7 @@ one_same x a b is also = is ∙ sym also
 
 one_file_answer : (file : List ℕ) (read : List ℕ → Answer → Type 0) (content : Option (List ℕ)) → ((bytes : List ℕ) → One (read bytes)) → One (λ a. FileAnswer file content (λ bytes. read bytes a) a)
 one_file_answer file read None one a b is also = is ∙ sym also
-one_file_answer file read (Some bytes) one a b is also = one_of_both (ltb most_bytes (length bytes)) (λ c. c ≡ Refuses (refusal_line file FileTooLong)) (read bytes) (one_same _) (one bytes) a b is also
+one_file_answer file read (Some bytes) one a b is also = one_of_both (ltb most_bytes (length bytes)) (λ c. c ≡ Refuses (refusal_line (FileTooLong file))) (read bytes) (one_same _) (one bytes) a b is also
 
 told_once : (file : List ℕ) (files : Files) (read : List ℕ → Answer → Type 0) → ((bytes : List ℕ) → One (read bytes)) → One (λ a. (content : Option (List ℕ)) × IsFileAt (Some files) file content × FileAnswer file content (λ bytes. read bytes a) a)
 told_once file files read one a b is also =
@@ -57,35 +61,43 @@ told_once file files read one a b is also =
 one_about : (file : List ℕ) (files : Files) (Says : List ℕ → Said → Type 0) → ((bytes : List ℕ) → OneSaid (Says bytes)) → One (AboutFile (Some files) file Says)
 one_about file files Says one = told_once file files (λ bytes a. QueryAnswer file (Says bytes) a) (λ bytes. one_query file (Says bytes) (one bytes))
 
-one_answer_to : (command : Option Command) (files : Files) (stores : Stores) → 0 < length stores → AllTold stores → One (AnswerTo command (Some files) stores)
-one_answer_to None files stores some told a b is also = is ∙ sym also
-one_answer_to (Some (Raw file)) files stores some told a b is also = one_about file files RawSays one_raw a b is also
-one_answer_to (Some (UnitAt file offset)) files stores some told a b is also = one_about file files (UnitAtSays offset) (one_unit_at offset) a b is also
-one_answer_to (Some (Dump file)) files stores some told a b is also = one_about file files DumpSays one_dump a b is also
-one_answer_to (Some (Info file position name)) files stores some told a b is also = one_about file files (InfoSays position name) (one_info position name) a b is also
-one_answer_to (Some (ListAt file position)) files stores some told a b is also = one_about file files (ListSays position) (one_list position) a b is also
-one_answer_to (Some (Expand file position text)) files stores some told a b is also = one_about file files (ExpandSays position text) (one_expand position text) a b is also
-one_answer_to (Some (Once file position text)) files stores some told a b is also = one_about file files (OnceSays position text) (one_once position text) a b is also
-one_answer_to (Some (Events unit folders)) files stores some told a b is also = unit_once stores unit some told a b is also
-one_answer_to (Some Help) files stores some told a b is also = is ∙ sym also
-one_answer_to (Some Version) files stores some told a b is also = is ∙ sym also
+-- there is one thing to be said to each query
+one_query_says : (query : Query) (bytes : List ℕ) → OneSaid (QuerySays query bytes)
+one_query_says Raw bytes = one_raw bytes
+one_query_says (UnitAt offset) bytes = one_unit_at offset bytes
+one_query_says Dump bytes = one_dump bytes
+one_query_says (Info position name) bytes = one_info position name bytes
+one_query_says (ListAt position) bytes = one_list position bytes
+one_query_says (Expand position text) bytes = one_expand position text bytes
+one_query_says (Once position text) bytes = one_once position text bytes
+
+one_asked : (file : List ℕ) (query : Query) (told : Option Files) (files : Files) → told ≡ Some files → One (AboutFile told file (QuerySays query))
+one_asked file query told files is =
+    subst (λ (t : Option Files). One (AboutFile t file (QuerySays query))) (sym is) (one_about file files (QuerySays query) (one_query_says query))
+
+one_answer_to : (request : Option Request) (told : Option Files) (stores : Stores) → 0 < length stores → ReadsTold request told stores → One (AnswerTo request told stores)
+one_answer_to None told stores some reads a b is also = is ∙ sym also
+one_answer_to (Some (Asks file query)) told stores some reads a b is also = one_asked file query told reads.0 reads.1 a b is also
+one_answer_to (Some (Events unit folders)) told stores some reads a b is also = unit_once stores unit some reads a b is also
+one_answer_to (Some Help) told stores some reads a b is also = is ∙ sym also
+one_answer_to (Some Version) told stores some reads a b is also = is ∙ sym also
 
 -- where the path has a store for each label, it has one
 has_one : (stores : Stores) (folders : List (List ℕ)) → labels stores ≡ [] ∷ folders → 0 < length stores
 has_one [] folders is = cc
 has_one (store ∷ stores) folders is = omega arith
 
-pub path_some : (command : Option Command) (stores : Stores) (found : Command) → Some found ≡ command → HasStores (option_map labels_by command) stores → 0 < length stores
+pub path_some : (command : Option Request) (stores : Stores) (found : Request) → Some found ≡ command → HasStores (option_map labels_by command) stores → 0 < length stores
 path_some None stores found is has = cc
 path_some (Some command) stores found is has = has_one stores (folders_of command) has
 
-one_by : (command : Option Command) (files : Files) (stores : Stores) → HasStores (option_map labels_by command) stores → AllTold stores → One (AnswerTo command (Some files) stores)
-one_by None files stores has told a b is also = is ∙ sym also
-one_by (Some command) files stores has told a b is also = one_answer_to (Some command) files stores (has_one stores (folders_of command) has) told a b is also
+one_by : (request : Option Request) (told : Option Files) (stores : Stores) → HasStores (option_map labels_by request) stores → ReadsTold request told stores → One (AnswerTo request told stores)
+one_by None told stores has reads a b is also = is ∙ sym also
+one_by (Some request) told stores has reads a b is also = one_answer_to (Some request) told stores (has_one stores (folders_of request) has) reads a b is also
 
 -- told files allow at most one answer
-pub one_answer : (words : List (List ℕ)) (files : Files) (stores : Stores) → IsPathFor words stores → AllTold stores → (a b : Answer) → IsAnswer words (Some files) stores a → IsAnswer words (Some files) stores b → a ≡ b
-one_answer words files stores has told a b is also = one_by (command_of words) files stores has told a b is also
+pub one_answer : (words : List (List ℕ)) (told : Option Files) (stores : Stores) → IsPathFor words stores → IsTold words told stores → (a b : Answer) → IsAnswer words told stores a → IsAnswer words told stores b → a ≡ b
+one_answer words told stores has reads a b is also = one_by (request_of words) told stores has reads a b is also
 
 -- answers of which there is one
 abbrev Some_of : (Answer → Type 0) → Type 0
@@ -99,9 +111,9 @@ some_of_both true P Q p q = p
 some_of_both false P Q p q = q
 
 file_answer : (file : List ℕ) (read : List ℕ → Answer → Type 0) (content : Option (List ℕ)) → ((bytes : List ℕ) → Some_of (read bytes)) → Some_of (λ a. FileAnswer file content (λ bytes. read bytes a) a)
-file_answer file read None some = (Refuses (refusal_line file NoSuchFile), refl)
+file_answer file read None some = (Refuses (refusal_line (NoSuchFile file)), refl)
 file_answer file read (Some bytes) some =
-    some_of_both (ltb most_bytes (length bytes)) (λ a. a ≡ Refuses (refusal_line file FileTooLong)) (read bytes) (Refuses (refusal_line file FileTooLong), refl) (some bytes)
+    some_of_both (ltb most_bytes (length bytes)) (λ a. a ≡ Refuses (refusal_line (FileTooLong file))) (read bytes) (Refuses (refusal_line (FileTooLong file)), refl) (some bytes)
 
 told_answer : (file : List ℕ) (told : Option Files) (read : List ℕ → Answer → Type 0) → ((bytes : List ℕ) → Some_of (read bytes)) → Some_of (λ a. (content : Option (List ℕ)) × IsFileAt told file content × FileAnswer file content (λ bytes. read bytes a) a)
 told_answer file None read some = let found = file_answer file read None some in (found.0, (None, tt, found.1))
@@ -110,28 +122,22 @@ told_answer file (Some files) read some = let found = file_answer file read (map
 about_answer : (file : List ℕ) (told : Option Files) (Says : List ℕ → Said → Type 0) → ((bytes : List ℕ) → OneSaid (Says bytes)) → Some_of (AboutFile told file Says)
 about_answer file told Says one = told_answer file told (λ bytes a. QueryAnswer file (Says bytes) a) (λ bytes. some_query file (Says bytes) (one bytes))
 
-answer_to : (command : Option Command) (told : Option Files) (stores : Stores) → 0 < length stores → Some_of (AnswerTo command told stores)
+answer_to : (request : Option Request) (told : Option Files) (stores : Stores) → 0 < length stores → Some_of (AnswerTo request told stores)
 answer_to None told stores some = (Misuse, refl)
-answer_to (Some (Raw file)) told stores some = about_answer file told RawSays one_raw
-answer_to (Some (UnitAt file offset)) told stores some = about_answer file told (UnitAtSays offset) (one_unit_at offset)
-answer_to (Some (Dump file)) told stores some = about_answer file told DumpSays one_dump
-answer_to (Some (Info file position name)) told stores some = about_answer file told (InfoSays position name) (one_info position name)
-answer_to (Some (ListAt file position)) told stores some = about_answer file told (ListSays position) (one_list position)
-answer_to (Some (Expand file position text)) told stores some = about_answer file told (ExpandSays position text) (one_expand position text)
-answer_to (Some (Once file position text)) told stores some = about_answer file told (OnceSays position text) (one_once position text)
+answer_to (Some (Asks file query)) told stores some = about_answer file told (QuerySays query) (one_query_says query)
 answer_to (Some (Events unit folders)) told stores some = unit_some stores unit some
 answer_to (Some Help) told stores some = (Prints help_text, refl)
 answer_to (Some Version) told stores some = (Prints version_text, refl)
 
-some_by : (command : Option Command) (told : Option Files) (stores : Stores) → HasStores (option_map labels_by command) stores → Some_of (AnswerTo command told stores)
+some_by : (request : Option Request) (told : Option Files) (stores : Stores) → HasStores (option_map labels_by request) stores → Some_of (AnswerTo request told stores)
 some_by None told stores has = (Misuse, refl)
-some_by (Some command) told stores has = answer_to (Some command) told stores (has_one stores (folders_of command) has)
+some_by (Some request) told stores has = answer_to (Some request) told stores (has_one stores (folders_of request) has)
 
 -- and there is one
 pub some_answer : (words : List (List ℕ)) (told : Option Files) (stores : Stores) → IsPathFor words stores → (a : Answer) × IsAnswer words told stores a
-some_answer words told stores has = some_by (command_of words) told stores has
+some_answer words told stores has = some_by (request_of words) told stores has
 
-told_says : (file : List ℕ) (Says : Said → Type 0) (result said : Said) → Says said → result ≡ within_limit said → IfSome (told_by file result) (QueryAnswer file Says)
+told_says : (file : List ℕ) (Says : Said → Type 0) (result said : Said) → Says said → result ≡ within_limit said → IfSome (query_answer file result) (QueryAnswer file Says)
 told_says file Says (Ok text) said says is = (said, says, ap (answer_by file) is)
 told_says file Says (Err (QueryElf fault)) said says is = (said, says, ap (answer_by file) is)
 told_says file Says (Err (QueryInfo fault)) said says is = (said, says, ap (answer_by file) is)
@@ -144,29 +150,55 @@ told_says file Says (Err (QueryExpand fault)) said says is = (said, says, ap (an
 told_says file Says (Err ReportTooLong) said says is = (said, says, ap (answer_by file) is)
 told_says file Says (Err QueryRanOut) said says is = tt
 
-told_query : (file : List ℕ) (Says : Said → Type 0) (result : Said) → Answers result Says → IfSome (told_by file result) (QueryAnswer file Says)
-told_query file Says result (inl ran) = subst (λ (r : Said). IfSome (told_by file r) (QueryAnswer file Says)) (sym ran) tt
+told_query : (file : List ℕ) (Says : Said → Type 0) (result : Said) → Answers result Says → IfSome (query_answer file result) (QueryAnswer file Says)
+told_query file Says result (inl ran) = subst (λ (r : Said). IfSome (query_answer file r) (QueryAnswer file Says)) (sym ran) tt
 told_query file Says result (inr found) = told_says file Says result found.0 found.1 found.2
 
 file_by : (file : List ℕ) (told : Option Files) (bytes : List ℕ) (Says : List ℕ → Said → Type 0) (o : Option Answer) → IsFileAt told file (Some bytes) → length bytes ≤ most_bytes → IfSome o (QueryAnswer file (Says bytes)) → IfSome o (AboutFile told file Says)
 file_by file told bytes Says None is short means = tt
 file_by file told bytes Says (Some a) is short means = (Some bytes, is, rw (le-ltb most_bytes (length bytes) short) means)
 
--- what was read within the limit is answered by its bytes
-pub file_found : (file : List ℕ) (told : Option Files) (bytes read : List ℕ) (Says : List ℕ → Said → Type 0) (result : Said) (o : Option Answer) →
-    IsFileAt told file (Some bytes) × (length bytes ≤ most_bytes) → read ≡ bytes → Answers result (Says read) → o ≡ told_by file result → IfSome o (AboutFile told file Says)
+-- the answer by the bytes that were read
+file_found : (file : List ℕ) (told : Option Files) (bytes read : List ℕ) (Says : List ℕ → Said → Type 0) (result : Said) (o : Option Answer) →
+    IsFileAt told file (Some bytes) × (length bytes ≤ most_bytes) → read ≡ bytes → Answers result (Says read) → o ≡ query_answer file result → IfSome o (AboutFile told file Says)
 file_found file told bytes read Says result o found same answers is =
     let says = subst (λ (xs : List ℕ). Answers result (Says xs)) same answers in
     file_by file told bytes Says o found.0 found.1 (subst (λ (p : Option Answer). IfSome p (QueryAnswer file (Says bytes))) (sym is) (told_query file (Says bytes) result says))
 
-no_file : (file : List ℕ) (told : Option Files) (read : List ℕ → Answer → Type 0) (a : Answer) (content : Option (List ℕ)) → IsFileAt told file content → NoFileAnswer file content a → (found : Option (List ℕ)) × IsFileAt told file found × FileAnswer file found (λ xs. read xs a) a
-no_file file told read a None is answer = (None, is, answer)
-no_file file told read a (Some bytes) is answer = (Some bytes, is, rw (lt-ltb most_bytes (length bytes) answer.0) answer.1)
+read_found : (file : List ℕ) (told : Option Files) (content : Option (List ℕ)) (Says : List ℕ → Said → Type 0) (old new read : List ℕ) (result : Said) (o : Option Answer) →
+    old ≡ [] → IsFileAt told file content → Fetches content most_bytes Found old new → read ≡ new → Answers result (Says read) → o ≡ query_answer file result → IfSome o (AboutFile told file Says)
+read_found file told content Says old new read result o empty at found same answers is =
+    file_found file told found.0 read Says result o (subst (λ (c : Option (List ℕ)). IsFileAt told file c) found.1 at, found.2) (same ∙ found.3 ∙ ap (λ (xs : List ℕ). xs ++ found.0) empty) answers is
 
--- and what was not read, by that
-pub file_missed : (file : List ℕ) (told : Option Files) (Says : List ℕ → Said → Type 0) (o : Option Answer) → IfSome o (IsNoFile told file) → IfSome o (AboutFile told file Says)
-file_missed file told Says None means = tt
-file_missed file told Says (Some a) means = no_file file told (λ bytes b. QueryAnswer file (Says bytes) b) a means.0 means.1 means.2
+-- what was read within the limit is answered by its bytes
+pub file_read : (file named : List ℕ) (told : Option Files) (Says : List ℕ → Said → Type 0) (old new read : List ℕ) (result : Said) (o : Option Answer) →
+    named ≡ file → old ≡ [] → FetchesFrom told named most_bytes Found old new → read ≡ new → Answers result (Says read) → o ≡ query_answer file result → IfSome o (AboutFile told file Says)
+file_read file named told Says old new read result o name empty fetched same answers is =
+    let got = subst (λ (n : List ℕ). FetchesFrom told n most_bytes Found old new) name fetched in
+    read_found file told got.0 Says old new read result o empty got.1 got.2 same answers is
+
+read_absent : (file : List ℕ) (told : Option Files) (content : Option (List ℕ)) (Says : List ℕ → Said → Type 0) (old new : List ℕ) → IsFileAt told file content → Fetches content most_bytes Absent old new →
+    AboutFile told file Says (Refuses (refusal_line (NoSuchFile file)))
+read_absent file told content Says old new at found = (None, subst (λ (c : Option (List ℕ)). IsFileAt told file c) found.0 at, refl)
+
+-- a file that is missing
+pub file_absent : (file named : List ℕ) (told : Option Files) (Says : List ℕ → Said → Type 0) (old new : List ℕ) → named ≡ file → FetchesFrom told named most_bytes Absent old new →
+    AboutFile told file Says (Refuses (refusal_line (NoSuchFile file)))
+file_absent file named told Says old new name fetched =
+    let got = subst (λ (n : List ℕ). FetchesFrom told n most_bytes Absent old new) name fetched in
+    read_absent file told got.0 Says old new got.1 got.2
+
+read_long : (file : List ℕ) (told : Option Files) (content : Option (List ℕ)) (Says : List ℕ → Said → Type 0) (old new : List ℕ) → IsFileAt told file content → Fetches content most_bytes TooLong old new →
+    AboutFile told file Says (Refuses (refusal_line (FileTooLong file)))
+read_long file told content Says old new at found =
+    (Some found.0, subst (λ (c : Option (List ℕ)). IsFileAt told file c) found.1 at, rw (lt-ltb most_bytes (length found.0) found.2) refl)
+
+-- and a file that is too long
+pub file_long : (file named : List ℕ) (told : Option Files) (Says : List ℕ → Said → Type 0) (old new : List ℕ) → named ≡ file → FetchesFrom told named most_bytes TooLong old new →
+    AboutFile told file Says (Refuses (refusal_line (FileTooLong file)))
+file_long file named told Says old new name fetched =
+    let got = subst (λ (n : List ℕ). FetchesFrom told n most_bytes TooLong old new) name fetched in
+    read_long file told got.0 Says old new got.1 got.2
 
 -- an end is that of some answer
 pub answered : (words : List (List ℕ)) (told : Option Files) (stores : Stores) (o : Option Answer) (status : Status) (old new : Texts) → IsPathFor words stores → IfSome o (IsAnswer words told stores) → Ends o status old new →
@@ -174,8 +206,8 @@ pub answered : (words : List (List ℕ)) (told : Option Files) (stores : Stores)
 answered words told stores (Some a) status old new has means ends = (a, means, ends)
 answered words told stores None status old new has means ends = let found = some_answer words told stores has in (found.0, found.1, ends found.0)
 
--- and over told files and stores that of each, since there is one
-pub only : (words : List (List ℕ)) (files : Files) (stores : Stores) (o : Option Answer) (status : Status) (old new : Texts) → IsPathFor words stores → AllTold stores → IfSome o (IsAnswer words (Some files) stores) → Ends o status old new →
-    (answer : Answer) → IsAnswer words (Some files) stores answer → Leaves answer status old new
-only words files stores (Some a) status old new has told means ends answer is = subst (λ (b : Answer). Leaves b status old new) (one_answer words files stores has told a answer means is) ends
-only words files stores None status old new has told means ends answer is = ends answer
+-- and over told files that of each, since there is one
+pub only : (words : List (List ℕ)) (told : Option Files) (stores : Stores) (o : Option Answer) (status : Status) (old new : Texts) → IsPathFor words stores → IsTold words told stores → IfSome o (IsAnswer words told stores) → Ends o status old new →
+    (answer : Answer) → IsAnswer words told stores answer → Leaves answer status old new
+only words told stores (Some a) status old new has reads means ends answer is = subst (λ (b : Answer). Leaves b status old new) (one_answer words told stores has reads a answer means is) ends
+only words told stores None status old new has reads means ends answer is = ends answer

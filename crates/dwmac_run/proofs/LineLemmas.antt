@@ -2,7 +2,7 @@
 use Rattle.std.proofs.Common.{◌≡◌, ℕ, suc, ◌+◌, ◌*◌, ◌^◌, ◌<◌, ◌≤◌, List, length, get_or, drop, ap, ◌∙◌, arith}
 use Rattle.std.proofs.lemmas.List.{drop_more}
 use Rattle.std.proofs.Math.Nat.{pow-le-pow_right, pow-suc}
-use Rattle.dwmac_run.specs.Command.{hex_behind, hex_step, hex_value}
+use Rattle.dwmac_run.specs.Offsets.{hex_after, hex_step, hex_value}
 
 -- a number of i digits, and one more
 pub hex_fits : (n i digit : ℕ) → i < 16 → n < 16 ^ i → digit < 16 → n * 16 + digit < 2 ^ 64
@@ -16,5 +16,5 @@ hex_more n i digit small low =
     let power : 16 ^ (i + 1) ≡ 16 ^ i * 16 = ap (λ k. 16 ^ k) next ∙ pow-suc 16 i in
     omega (arith, power)
 
-pub hex_behind-next : (n : ℕ) (digits : List ℕ) (i : ℕ) → i < length digits → hex_behind n (drop i digits) ≡ hex_step n (hex_value (get_or digits i 0)) (λ m. hex_behind m (drop (i + 1) digits))
-hex_behind-next n digits i within = ap (hex_behind n) (drop_more digits i 0 within)
+pub hex_after-next : (n : ℕ) (digits : List ℕ) (i : ℕ) → i < length digits → hex_after n (drop i digits) ≡ hex_step n (hex_value (get_or digits i 0)) (λ m. hex_after m (drop (i + 1) digits))
+hex_after-next n digits i within = ap (hex_after n) (drop_more digits i 0 within)

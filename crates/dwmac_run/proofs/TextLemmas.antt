@@ -1,5 +1,5 @@
 -- Texts that grow piece by piece.
-use Rattle.std.proofs.Common.{◌≡◌, ℕ, List, [], ◌++◌, Option, Some, None, refl, ap, subst, ◌∙◌, sym, append_assoc}
+use Rattle.std.proofs.Common.{◌≡◌, ℕ, List, [], ◌++◌, Option, Some, None, refl, ap, ◌∙◌, sym, append_assoc}
 use Rattle.std.proofs.lemmas.List.{append-nil}
 use Rattle.mac_io.specs.Calls.{grown, GrowsByFront, Writes}
 use Rattle.mac_io.specs.declared.sink.Wrote.{Wrote}
@@ -13,7 +13,7 @@ pub grown_more : (t : Option (List ℕ)) (a b : List ℕ) → grown (grown t a) 
 grown_more None a b = refl
 grown_more (Some xs) a b = ap Some (append_assoc xs a b)
 
--- behind a front that was written, a piece that fails leaves a front of the whole
+-- after a prefix that was written, a piece that fails leaves a prefix of the whole
 pub front_more : (old so_far new : Option (List ℕ)) (whole front piece rest : List ℕ) → whole ≡ front ++ (piece ++ rest) → so_far ≡ grown old front → GrowsByFront so_far new piece → GrowsByFront old new whole
 front_more old so_far new whole front piece rest is written broken =
     let a = broken.0 in
@@ -24,12 +24,12 @@ front_more old so_far new whole front piece rest is written broken =
       broken.3 ∙ ap (λ z. grown z a) written ∙ grown_more old front a,
     )
 
--- and a piece that is written leaves a longer front
+-- and a piece that is written leaves a longer prefix
 pub whole_more : (old so_far new : Option (List ℕ)) (whole front piece rest : List ℕ) → whole ≡ front ++ (piece ++ rest) → so_far ≡ grown old front → new ≡ grown so_far piece → (whole ≡ (front ++ piece) ++ rest) × (new ≡ grown old (front ++ piece))
 whole_more old so_far new whole front piece rest is written grows =
     (is ∙ sym (append_assoc front piece rest), grows ∙ ap (λ z. grown z piece) written ∙ grown_more old front piece)
 
--- a piece behind one that was written
+-- a piece after one that was written
 pub writes_both : (old mid new : Option (List ℕ)) (a b : List ℕ) (answer : Wrote) → mid ≡ grown old a → Writes mid new b answer → Writes old new (a ++ b) answer
 writes_both old mid new a b Done first second = second ∙ ap (λ z. grown z b) first ∙ grown_more old a b
 writes_both old mid new a b Failed first second =
@@ -38,12 +38,3 @@ writes_both old mid new a b Failed first second =
 -- a piece that failed, before one that was not tried
 pub writes_front : (old new : Option (List ℕ)) (a b : List ℕ) → GrowsByFront old new a → GrowsByFront old new (a ++ b)
 writes_front old new a b broken = (broken.0, broken.1 ++ b, ap (λ zs. zs ++ b) broken.2 ∙ append_assoc broken.0 broken.1 b, broken.3)
-
--- a front, and then words with digits and an end
-pub refusal_written : (old mid new : Option (List ℕ)) (front words digits end : List ℕ) (answer : Wrote) → mid ≡ grown old front → Writes mid new (words ++ digits ++ end) answer → Writes old new (front ++ (words ++ digits) ++ end) answer
-refusal_written old mid new front words digits end answer first second =
-    subst (λ (xs : List ℕ). Writes old new xs answer) (sym (append_assoc front (words ++ digits) end)) (writes_both old mid new front (words ++ digits ++ end) answer first second)
-
-pub refusal_broken : (old new : Option (List ℕ)) (front words digits end : List ℕ) → GrowsByFront old new front → GrowsByFront old new (front ++ (words ++ digits) ++ end)
-refusal_broken old new front words digits end broken =
-    subst (λ (xs : List ℕ). GrowsByFront old new xs) (sym (append_assoc front (words ++ digits) end)) (writes_front old new front (words ++ digits ++ end) broken)

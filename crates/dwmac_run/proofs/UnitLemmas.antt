@@ -10,7 +10,8 @@ use Rattle.pp_unit.specs.WalkLaws.{IsOnFiles, IsPlain, IsPlainAnswer}
 use Rattle.pp_unit.proofs.OneWalkLemmas.{walk_one_answer}
 use Rattle.pp_unit.proofs.SomeWalkLemmas.{walk_some_answer}
 use Rattle.dwmac_run.specs.Answers.{Answer, Refuses}
-use Rattle.dwmac_run.specs.UnitFaults.{unit_line}
+use Rattle.dwmac_run.specs.declared.refusal.Refusal.TheVariants.{TranslationUnit}
+use Rattle.dwmac_run.specs.Refusals.{refusal_line}
 use Rattle.dwmac_run.specs.Units.{AllTold, FaultSays, WalkSays, UnitAnswer, events_text, reported}
 
 no_store : (kind : PpKind) (fault : PpFault) (answer : Answer) → FaultSays kind fault answer → kind ≡ StoreFault → ⊥
@@ -22,7 +23,7 @@ on_files (Ok m) answer says = tt
 on_files (Err fault) answer says = no_store fault.what fault answer says
 
 -- a fault is one line
-line_said : (kind : PpKind) (fault : PpFault) (answer : Answer) → FaultSays kind fault answer → answer ≡ Refuses (unit_line fault)
+line_said : (kind : PpKind) (fault : PpFault) (answer : Answer) → FaultSays kind fault answer → answer ≡ Refuses (refusal_line (TranslationUnit fault))
 line_said (Lex f) fault answer says = says
 line_said (Def f) fault answer says = says
 line_said (Predefined name) fault answer says = says
@@ -54,7 +55,7 @@ unit_once stores unit some told a b is also =
     one_said also.0 a b (subst (λ (r : Result Marked PpFault). WalkSays r a) same is.2) also.2
 
 -- a fault that is no failure and no want of memory has its line
-has_line : (kind : PpKind) (fault : PpFault) → (kind ≡ StoreFault → ⊥) → IsPlain kind → FaultSays kind fault (Refuses (unit_line fault))
+has_line : (kind : PpKind) (fault : PpFault) → (kind ≡ StoreFault → ⊥) → IsPlain kind → FaultSays kind fault (Refuses (refusal_line (TranslationUnit fault)))
 has_line (Lex f) fault works plain = refl
 has_line (Def f) fault works plain = refl
 has_line (Predefined name) fault works plain = refl
@@ -76,7 +77,7 @@ has_line NoMemory fault works plain = absurd plain
 
 some_said : (result : Result Marked PpFault) → IsOnFiles result → IsPlainAnswer result → (answer : Answer) × WalkSays result answer
 some_said (Ok m) works plain = (reported (events_text m.seen), refl)
-some_said (Err fault) works plain = (Refuses (unit_line fault), has_line fault.what fault works plain)
+some_said (Err fault) works plain = (Refuses (refusal_line (TranslationUnit fault)), has_line fault.what fault works plain)
 
 -- over any stores a unit has an answer
 pub unit_some : (stores : Stores) (unit : UnitSpec) → 0 < length stores → (answer : Answer) × UnitAnswer stores unit answer

@@ -1,155 +1,97 @@
--- Which words fit a command.
-use Rattle.std.specs.Prelude.{ℕ, ◌+◌, ◌*◌, ◌-◌, nat_le, ◌==◌, ◌&&◌, not, if◌then◌else◌, List, [], ◌∷◌, length, codes, Option, Some, None}
+-- What the words of a command line ask for.
+use Rattle.std.specs.Prelude.{ℕ, nat_le, if◌then◌else◌, List, [], ◌∷◌, length, Option, Some, None}
 use Rattle.std.specs.Option.{option_map}
-use Rattle.std.specs.Str.{bytes_eq}
-use Rattle.dwmac_run.specs.declared.command.Command.{Command as HeldCommand}
-use Rattle.dwmac_run.specs.declared.command.Command.TheVariants.{Raw as HeldRaw, Unit as HeldUnit, Dump as HeldDump, Info as HeldInfo, List as HeldList, Expand as HeldExpand, Once as HeldOnce, Events as HeldEvents, Help as HeldHelp, Version as HeldVersion}
 use Rattle.position_table.specs.declared.position.Position.{Position}
-use Rattle.position_table.specs.declared.position.Position.TheVariants.{Chain, Named}
-use Rattle.position_table.specs.Positions.{position_of}
 use Rattle.pp_unit.specs.declared.request.Command.{Command as MacroWord}
-use Rattle.pp_unit.specs.declared.request.UnitSpec.{UnitSpec}
-use Rattle.dwmac_run.specs.declared.options.UnitWords.{UnitWords}
-use Rattle.dwmac_run.specs.Options.{no_words, unit_words, is_file_word, is_name_word}
+use Rattle.dwmac_run.specs.declared.commands.Verb.{Verb}
+use Rattle.dwmac_run.specs.declared.commands.Verb.TheVariants.{Raw, Unit as UnitAt, Dump, Info, List as ListAt, Expand, Once, Events, Help, Version}
+use Rattle.dwmac_run.specs.declared.request.Request.{Request}
+use Rattle.dwmac_run.specs.declared.request.Request.TheVariants.{Query as Asks, Events as EventsOf, Help as AsksHelp, Version as AsksVersion}
+use Rattle.dwmac_run.specs.declared.request.Query.{Query}
+use Rattle.dwmac_run.specs.declared.request.Query.TheVariants.{Raw as AsRaw, Unit as AsUnit, Dump as AsDump, Info as AsInfo, List as AsList, Expand as AsExpand, Once as AsOnce}
+use Rattle.dwmac_run.specs.declared.words.SplitWords.{SplitWords}
+use Rattle.dwmac_run.specs.declared.operands.Operands.{Operands}
+use Rattle.dwmac_run.specs.Commands.{row_of, verb_of}
+use Rattle.dwmac_run.specs.Words.{no_words, split_words}
+use Rattle.dwmac_run.specs.Operands.{no_operands, read_operands}
 
--- a command with its words
-pub data Command : Type 0 where
-  -- the report on the unit at the front of this file
-  Raw : List ℕ → Command
-  -- the report on the unit at this offset of the file's section of macro units
-  UnitAt : List ℕ → ℕ → Command
-  -- the macro information of all roots of this file
-  Dump : List ℕ → Command
-  -- the definition of this name at this position in the file
-  Info : List ℕ → Position → List ℕ → Command
-  -- all definitions at this position in the file
-  ListAt : List ℕ → Position → Command
-  -- what this text expands to at this position in the file
-  Expand : List ℕ → Position → List ℕ → Command
-  -- a single level of that
-  Once : List ℕ → Position → List ℕ → Command
-  -- the events of this translation unit, with these folders for headers
-  Events : UnitSpec → List (List ℕ) → Command
-  -- how the program is called
-  Help : Command
-  -- which program it is
-  Version : Command
+-- a query about a file, if both are there
+abbrev pub about : Option (List ℕ) → Option Query → Option Request
+about None query = None
+about (Some file) None = None
+about (Some file) (Some query) = Some (Asks file query)
 
--- a command without where its words lie in memory
-abbrev pub plain : HeldCommand → Command
-plain (HeldRaw file) = Raw file.now
-plain (HeldUnit file offset) = UnitAt file.now offset
-plain (HeldDump file) = Dump file.now
-plain (HeldInfo file position name) = Info file.now position name.now
-plain (HeldList file position) = ListAt file.now position
-plain (HeldExpand file position text) = Expand file.now position text.now
-plain (HeldOnce file position text) = Once file.now position text.now
-plain (HeldEvents unit folders) = Events unit folders
-plain HeldHelp = Help
-plain HeldVersion = Version
+-- a query with an offset, with a position, and with a position and a text, if they are there
+abbrev pub unit_at : Option ℕ → Option Query
+unit_at None = None
+unit_at (Some offset) = Some (AsUnit offset)
 
--- the value of a hexadecimal digit of either case
-abbrev pub hex_value : ℕ → Option ℕ
-hex_value b =
-    if nat_le 48 b && nat_le b 57 then Some (b - 48)
-    else if nat_le 97 b && nat_le b 102 then Some (b - 87)
-    else if nat_le 65 b && nat_le b 70 then Some (b - 55)
-    else None
+abbrev pub list_at : Option Position → Option Query
+list_at None = None
+list_at (Some position) = Some (AsList position)
 
--- with one more digit, if it is one, and then what follows
-abbrev pub hex_step : ℕ → Option ℕ → (ℕ → Option ℕ) → Option ℕ
-hex_step n None more = None
-hex_step n (Some digit) more = more (n * 16 + digit)
+abbrev pub with_text : (Position → List ℕ → Query) → Option Position → Option (List ℕ) → Option Query
+with_text query None text = None
+with_text query (Some position) None = None
+with_text query (Some position) (Some text) = Some (query position text)
 
--- the number of these digits behind those of a number, if all are digits
-abbrev pub hex_behind : ℕ → List ℕ → Option ℕ
-hex_behind n [] = Some n
-hex_behind n (b ∷ bytes) = hex_step n (hex_value b) (λ m. hex_behind m bytes)
+-- the events of a translation unit with these words for the preprocessor and these folders, if it has a source
+abbrev pub events_of : Option (List ℕ) → List MacroWord → List (List ℕ) → Option Request
+events_of None macros folders = None
+events_of (Some source) macros folders = Some (EventsOf (record { source = source; commands = macros }) folders)
 
--- an offset: `0x` and 1 to 16 hexadecimal digits
-abbrev pub offset_of : List ℕ → Option ℕ
-offset_of [] = None
-offset_of (a ∷ []) = None
-offset_of (a ∷ b ∷ digits) =
-    if a == 48 && (b == 120 && (nat_le 1 (length digits) && nat_le (length digits) 16)) then hex_behind 0 digits else None
+-- what a command asks for, by its operands
+abbrev pub request_with : Verb → List (List ℕ) → List MacroWord → Operands → Option Request
+request_with Raw folders macros read = about read.file (Some AsRaw)
+request_with UnitAt folders macros read = about read.file (unit_at read.offset)
+request_with Dump folders macros read = about read.file (Some AsDump)
+request_with Info folders macros read = about read.file (with_text AsInfo read.position read.text)
+request_with ListAt folders macros read = about read.file (list_at read.position)
+request_with Expand folders macros read = about read.file (with_text AsExpand read.position read.text)
+request_with Once folders macros read = about read.file (with_text AsOnce read.position read.text)
+request_with Events folders macros read = events_of read.file macros folders
+request_with Help folders macros read = Some AsksHelp
+request_with Version folders macros read = Some AsksVersion
 
--- the command of one word
-abbrev pub command_of_one : List ℕ → Option Command
-command_of_one word = if bytes_eq word (codes "--help") then Some Help else if bytes_eq word (codes "--version") then Some Version else None
-
--- a position that commands know: a chain of lines
-abbrev pub known_position : Option Position → Option Position
-known_position None = None
-known_position (Some (Chain unit lines line)) = Some (Chain unit lines line)
-known_position (Some (Named path line)) = None
-
--- `raw FILE` and `dump FILE`
-abbrev pub command_of_two : List ℕ → List ℕ → Option Command
-command_of_two verb file =
-    if not (is_file_word file) then None
-    else if bytes_eq verb (codes "raw") then Some (Raw file)
-    else if bytes_eq verb (codes "dump") then Some (Dump file)
-    else None
-
--- `unit FILE OFF` and `list FILE POS`
-abbrev pub command_of_three : List ℕ → List ℕ → List ℕ → Option Command
-command_of_three verb file place =
-    if not (is_file_word file) then None
-    else if bytes_eq verb (codes "unit") then option_map (UnitAt file) (offset_of place)
-    else if bytes_eq verb (codes "list") then option_map (ListAt file) (known_position (position_of place))
-    else None
-
--- with a name at a position
-abbrev pub info_of : List ℕ → List ℕ → List ℕ → Option Command
-info_of file place name = if is_name_word name then option_map (λ position. Info file position name) (known_position (position_of place)) else None
-
--- `info FILE POS NAME`, `expand FILE POS TEXT` and `once FILE POS TEXT`; a text may be any word
-abbrev pub command_of_four : List ℕ → List ℕ → List ℕ → List ℕ → Option Command
-command_of_four verb file place word =
-    if not (is_file_word file) then None
-    else if bytes_eq verb (codes "info") then info_of file place word
-    else if bytes_eq verb (codes "expand") then option_map (λ position. Expand file position word) (known_position (position_of place))
-    else if bytes_eq verb (codes "once") then option_map (λ position. Once file position word) (known_position (position_of place))
-    else None
-
--- the command of a number of words that is fixed
-abbrev pub fixed_command : List (List ℕ) → Option Command
-fixed_command [] = None
-fixed_command (word ∷ []) = command_of_one word
-fixed_command (verb ∷ file ∷ []) = command_of_two verb file
-fixed_command (verb ∷ file ∷ place ∷ []) = command_of_three verb file place
-fixed_command (verb ∷ file ∷ place ∷ word ∷ []) = command_of_four verb file place word
-fixed_command (verb ∷ file ∷ place ∷ word ∷ other ∷ words) = None
+-- the same, where the operands fit
+abbrev pub request_by : Verb → List (List ℕ) → List MacroWord → Option Operands → Option Request
+request_by verb folders macros None = None
+request_by verb folders macros (Some read) = request_with verb folders macros read
 
 -- the most folders for headers that a command takes
 abbrev pub most_folders : ℕ
 most_folders = 255
 
--- the events of a unit with these words for the preprocessor and these folders, if there is one source
-abbrev pub events_of : List (List ℕ) → List MacroWord → List (List ℕ) → Option Command
-events_of folders macros [] = None
-events_of folders macros (source ∷ []) = Some (Events (record { source = source; commands = macros }) folders)
-events_of folders macros (source ∷ other ∷ sources) = None
+-- the same by the words after the verb, where they could be split
+abbrev pub request_split : Verb → Option SplitWords → Option Request
+request_split verb None = None
+request_split verb (Some split) =
+    if nat_le (length split.folders) most_folders then request_by verb split.folders split.macros (read_operands (row_of verb).operands no_operands split.operands) else None
 
--- the same by the words behind `events`
-abbrev pub events_by : Option UnitWords → Option Command
-events_by None = None
-events_by (Some read) = if nat_le (length read.folders) most_folders then events_of read.folders read.macros read.sources else None
+abbrev pub request_for : Verb → List (List ℕ) → Option Request
+request_for verb words = request_split verb (split_words (row_of verb).options no_words words)
 
--- the command that the words fit
-abbrev pub command_of : List (List ℕ) → Option Command
-command_of [] = None
-command_of (verb ∷ words) = if bytes_eq verb (codes "events") then events_by (unit_words no_words words) else fixed_command (verb ∷ words)
+-- what a command asks for, if there is one
+abbrev pub request_named : Option Verb → List (List ℕ) → Option Request
+request_named None words = None
+request_named (Some verb) words = request_for verb words
 
--- the folders for headers that a command names
-abbrev pub folders_of : Command → List (List ℕ)
-folders_of (Events unit folders) = folders
-folders_of _ = []
+-- what words ask for; none where they fit no command
+abbrev pub request_of : List (List ℕ) → Option Request
+request_of [] = None
+request_of (word ∷ words) = request_named (verb_of word) words
 
--- the labels of the stores that a command needs: an empty one, for the folder in which the program runs, then each folder for headers
-abbrev pub labels_by : Command → List (List ℕ)
-labels_by command = [] ∷ folders_of command
+-- the folders for headers that a request names
+abbrev pub folders_of : Request → List (List ℕ)
+folders_of (Asks file query) = []
+folders_of (EventsOf unit folders) = folders
+folders_of AsksHelp = []
+folders_of AsksVersion = []
+
+-- the labels of the stores that a request needs: an empty one, for the folder in which the program runs, then each folder for headers
+abbrev pub labels_by : Request → List (List ℕ)
+labels_by request = [] ∷ folders_of request
 
 -- the labels for the command that the words fit
 abbrev pub labels_of : List (List ℕ) → Option (List (List ℕ))
-labels_of words = option_map labels_by (command_of words)
+labels_of words = option_map labels_by (request_of words)

@@ -1,25 +1,12 @@
--- How the words of a command are read one after another, by what the next one is.
-use Rattle.std.specs.Prelude.{ℕ, List, Option, Some, None}
-use Rattle.pp_unit.specs.declared.request.Command.TheVariants.{Define, Undef}
-use Rattle.dwmac_run.specs.declared.options.UnitWords.{UnitWords}
-use Rattle.dwmac_run.specs.declared.options.UnitOption.{UnitOption}
-use Rattle.dwmac_run.specs.declared.options.UnitOption.TheVariants.{Folder, Define as DefineOption, Undef as UndefOption}
-use Rattle.dwmac_run.specs.declared.options.Expected.{Expected}
-use Rattle.dwmac_run.specs.declared.options.Expected.TheVariants.{Any, Taken}
-use Rattle.dwmac_run.specs.Options.{unit_words, taken, with_folder, with_macro}
-
--- with the word that an option takes
-abbrev pub with_word : UnitOption → UnitWords → List ℕ → UnitWords
-with_word Folder read word = with_folder read word
-with_word DefineOption read word = with_macro read (Define word)
-with_word UndefOption read word = with_macro read (Undef word)
+-- How the words of a command are read one after another, by what the next one is. Only private functions cite this.
+use Rattle.std.specs.Prelude.{ℕ, List, Option}
+use Rattle.dwmac_run.specs.declared.words.SplitWords.{SplitWords}
+use Rattle.dwmac_run.specs.declared.words.Expected.{Expected}
+use Rattle.dwmac_run.specs.declared.words.Expected.TheVariants.{Any, Taken}
+use Rattle.dwmac_run.specs.declared.commands.CommandOption.{CommandOption}
+use Rattle.dwmac_run.specs.Words.{split_words, split_taken}
 
 -- what is read with these words, of which the first is expected to be this
-abbrev pub words_behind : Expected → UnitWords → List (List ℕ) → Option UnitWords
-words_behind Any read words = unit_words read words
-words_behind (Taken option) read words = taken (with_word option read) words
-
--- the same, if words may follow at all
-abbrev pub words_next : Option Expected → UnitWords → List (List ℕ) → Option UnitWords
-words_next None read words = None
-words_next (Some expected) read words = words_behind expected read words
+abbrev pub words_after : List CommandOption → Expected → SplitWords → List (List ℕ) → Option SplitWords
+words_after options Any read words = split_words options read words
+words_after options (Taken option) read words = split_taken options option read words

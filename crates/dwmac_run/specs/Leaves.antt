@@ -1,18 +1,10 @@
 -- What a run leaves of the texts of `out` and `err`, by its answer and its status.
-use Rattle.std.specs.Prelude.{◌≡◌, ℕ, List, ◌++◌, codes, Option, ◌⊎◌}
+use Rattle.std.specs.Prelude.{◌≡◌, ℕ, List, ◌++◌, Option, ◌⊎◌}
 use Rattle.mac_io.specs.Calls.{grown, GrowsByFront}
-use Rattle.dwmac_run.specs.Refusals.{no_memory_line}
+use Rattle.dwmac_run.specs.Refusals.{usage_line, no_memory_line, outside_line}
 use Rattle.dwmac_run.specs.Answers.{Answer, Prints, Refuses, Misuse}
 use Rattle.dwmac_run.specs.declared.status.Status.{Status}
 use Rattle.dwmac_run.specs.declared.status.Status.TheVariants.{Ok, Refused, Usage, NoMemory, Outside}
-
--- the line on words that fit no command
-abbrev pub usage_line : List ℕ
-usage_line = codes "dwmac: usage\n"
-
--- the line on a shelf or a sink that failed
-abbrev pub outside_line : List ℕ
-outside_line = codes "dwmac: outside fault\n"
 
 -- the texts of `out` and `err`, where they are told
 pub record Texts : Type 0 where
@@ -23,7 +15,7 @@ pub record Texts : Type 0 where
 abbrev pub Says : List ℕ → Texts → Texts → Type 0
 Says line old new = (new.out ≡ old.out) × (new.err ≡ grown old.err line)
 
--- a front of this line more, and then a front of the line on the outside
+-- a prefix of this line more, and then a prefix of the line on the outside
 abbrev pub IsCut : List ℕ → Option (List ℕ) → Option (List ℕ) → Type 0
 IsCut line old new = (front back : List ℕ) × (line ≡ front ++ back) × GrowsByFront (grown old front) new outside_line
 
@@ -31,7 +23,7 @@ IsCut line old new = (front back : List ℕ) × (line ≡ front ++ back) × Grow
 abbrev pub BreaksOff : List ℕ → Texts → Texts → Type 0
 BreaksOff line old new = (new.out ≡ old.out) × IsCut line old.err new.err
 
--- `out` has a front of this text more, and `err` a front of the line on the outside
+-- `out` has a prefix of this text more, and `err` a prefix of the line on the outside
 abbrev pub PrintsPart : List ℕ → Texts → Texts → Type 0
 PrintsPart text old new = GrowsByFront old.out new.out text × GrowsByFront old.err new.err outside_line
 

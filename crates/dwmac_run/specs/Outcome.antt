@@ -1,57 +1,53 @@
--- The answer that an outcome is, and how an outcome ends.
+-- The answer that an outcome is, and how an outcome ends. Only private functions cite this.
 use Rattle.std.specs.Prelude.{◌≡◌, ◌⊎◌, ℕ, ◌≤◌, ◌<◌, List, length, Option, Some, None, Result, Ok, Err}
 use Rattle.macro_query.specs.declared.fault.QueryFault.{QueryFault}
-use Rattle.macro_query.specs.declared.fault.QueryFault.TheVariants.{Elf as QueryElf, Info as QueryInfo, Line as QueryLine, Unit as QueryUnit, NoSuchUnit as QueryNoSuchUnit, Position as QueryPosition, Text as QueryText, Expand as QueryExpand, ReportTooLong, NoMemory as QueryRanOut}
+use Rattle.macro_query.specs.declared.fault.QueryFault.TheVariants.{Elf as QueryElf, Info as QueryInfo, Line as QueryLine, Unit as QueryUnit, NoSuchUnit as QueryNoSuchUnit, Position as QueryPosition, Text as QueryText, Expand as QueryExpand, ReportTooLong as QueryTooLong, NoMemory as QueryRanOut}
 use Rattle.std.specs.declared.vec.Vec.{Vec}
 use Rattle.std.specs.declared.alloc.Global.{Global}
+use Rattle.mac_base.specs.declared.memory.NoMemory.{NoMemory as RanOut}
 use Rattle.mac_base.specs.ReportText.{most_report}
 use Rattle.mac_io.specs.Calls.{grown}
 use Rattle.mac_io.specs.Causes.{Rose}
 use Rattle.dwmac_run.specs.Answers.{Answer, Prints, Refuses, Misuse}
+use Rattle.dwmac_run.specs.Answer.{answer_by}
 use Rattle.dwmac_run.specs.Leaves.{Texts, IsCut, Leaves}
-use Rattle.dwmac_run.specs.Refusals.{refusal_line, text_line, expand_line, long_report_line, fault_line}
-use Rattle.dwmac_run.specs.UnitFaults.{unit_line}
+use Rattle.dwmac_run.specs.Refusals.{refusal_line}
 use Rattle.dwmac_run.specs.declared.status.Status.{Status}
 use Rattle.dwmac_run.specs.declared.status.Status.TheVariants.{Outside}
 use Rattle.dwmac_run.specs.declared.outcome.Outcome.{Outcome}
-use Rattle.dwmac_run.specs.declared.outcome.Outcome.TheVariants.{Report, Text, Refused, NoTokens, NoExpansion, BadUnit, TooLong, Usage, NoMemory, Failed}
+use Rattle.dwmac_run.specs.declared.outcome.Outcome.TheVariants.{Report, Refused, Usage, NoMemory, Failed}
 
 -- the answer, where it isn't that memory ran out or the shelf failed
 abbrev pub answer_of : Outcome → Option Answer
 answer_of (Report text) = Some (Prints text)
-answer_of (Text text) = Some (Prints text.now)
-answer_of (Refused file refusal) = Some (Refuses (refusal_line file.now refusal))
-answer_of (NoTokens fault) = Some (Refuses (text_line fault))
-answer_of (NoExpansion fault) = Some (Refuses (expand_line fault))
-answer_of (BadUnit fault) = Some (Refuses (unit_line fault))
-answer_of TooLong = Some (Refuses long_report_line)
+answer_of (Refused fault) = Some (Refuses (refusal_line fault))
 answer_of Usage = Some Misuse
 answer_of NoMemory = None
 answer_of Failed = None
 
--- the answer that a query's report or fault is, where it isn't that memory ran out
-abbrev pub told_by : List ℕ → Result (List ℕ) QueryFault → Option Answer
-told_by file (Ok text) = Some (Prints text)
-told_by file (Err (QueryElf fault)) = Some (Refuses (fault_line file (QueryElf fault)))
-told_by file (Err (QueryInfo fault)) = Some (Refuses (fault_line file (QueryInfo fault)))
-told_by file (Err (QueryLine fault)) = Some (Refuses (fault_line file (QueryLine fault)))
-told_by file (Err QueryNoSuchUnit) = Some (Refuses (fault_line file QueryNoSuchUnit))
-told_by file (Err (QueryPosition fault)) = Some (Refuses (fault_line file (QueryPosition fault)))
-told_by file (Err (QueryUnit fault)) = Some (Refuses (fault_line file (QueryUnit fault)))
-told_by file (Err (QueryText fault)) = Some (Refuses (fault_line file (QueryText fault)))
-told_by file (Err (QueryExpand fault)) = Some (Refuses (fault_line file (QueryExpand fault)))
-told_by file (Err ReportTooLong) = Some (Refuses (fault_line file ReportTooLong))
-told_by file (Err QueryRanOut) = None
+-- the answer that a text is, where memory didn't run out
+abbrev pub text_answer : Result (List ℕ) RanOut → Option Answer
+text_answer (Ok text) = Some (Prints text)
+text_answer (Err ran_out) = None
+
+-- the answer that the report or the fault of a query is, where it isn't that memory ran out
+abbrev pub query_answer : List ℕ → Result (List ℕ) QueryFault → Option Answer
+query_answer file (Ok text) = Some (Prints text)
+query_answer file (Err (QueryElf fault)) = Some (answer_by file (Err (QueryElf fault)))
+query_answer file (Err (QueryInfo fault)) = Some (answer_by file (Err (QueryInfo fault)))
+query_answer file (Err (QueryLine fault)) = Some (answer_by file (Err (QueryLine fault)))
+query_answer file (Err QueryNoSuchUnit) = Some (answer_by file (Err QueryNoSuchUnit))
+query_answer file (Err (QueryPosition fault)) = Some (answer_by file (Err (QueryPosition fault)))
+query_answer file (Err (QueryUnit fault)) = Some (answer_by file (Err (QueryUnit fault)))
+query_answer file (Err (QueryText fault)) = Some (answer_by file (Err (QueryText fault)))
+query_answer file (Err (QueryExpand fault)) = Some (answer_by file (Err (QueryExpand fault)))
+query_answer file (Err QueryTooLong) = Some (answer_by file (Err QueryTooLong))
+query_answer file (Err QueryRanOut) = None
 
 -- the shelf or a header store failed
 abbrev pub HasFailed : Outcome → Type 0
 HasFailed (Report text) = ⊥
-HasFailed (Text text) = ⊥
-HasFailed (Refused file refusal) = ⊥
-HasFailed (NoTokens fault) = ⊥
-HasFailed (NoExpansion fault) = ⊥
-HasFailed (BadUnit fault) = ⊥
-HasFailed TooLong = ⊥
+HasFailed (Refused fault) = ⊥
 HasFailed Usage = ⊥
 HasFailed NoMemory = ⊥
 HasFailed Failed = Unit {0}

@@ -1,149 +1,121 @@
--- The words on a file that is refused: a kind of fault is printed as its name, with its section or place.
-use Rattle.std.specs.Prelude.{ℕ, List, ◌++◌, codes, decimal}
+-- The line on each fault. A fault that wraps another is told by its own name and then the inner one; its numbers and texts follow.
+use Rattle.std.specs.Prelude.{ℕ, List, [], ◌∷◌, codes, decimal}
+use Rattle.mac_base.specs.declared.frames.Frame.{Frame}
 use Rattle.mac_base.specs.ReportText.{hex}
 use Rattle.macro_query.specs.declared.fault.QueryFault.{QueryFault}
-use Rattle.macro_query.specs.declared.fault.QueryFault.TheVariants.{Elf as QueryElf, Info as QueryInfo, Line as QueryLine, Unit as QueryUnit, NoSuchUnit as QueryNoSuchUnit, Position as QueryPosition, Text as QueryText, Expand as QueryExpand, ReportTooLong, NoMemory}
+use Rattle.macro_query.specs.declared.fault.QueryFault.TheVariants.{Elf as QueryElf, Info as QueryInfo, Line as QueryLine, Unit as QueryUnit, NoSuchUnit, Position as QueryPosition, Text as QueryText, Expand as QueryExpand, ReportTooLong as QueryTooLong, NoMemory as QueryNoMemory}
 use Rattle.section_views.specs.declared.fault.ElfFault.{ElfFault}
 use Rattle.section_views.specs.declared.fault.ElfFault.TheVariants.{NotElf, Class, Order, Kind, Extended, Table, Range, Name, Compressed, Twice}
-use Rattle.info_roots.specs.declared.fault.InfoKind.{InfoKind}
-use Rattle.info_roots.specs.declared.fault.InfoKind.TheVariants.{Cut as InfoCut, Leb as InfoLeb, NoNul as InfoNoNul, Length as InfoLength, Version as InfoVersion, AbbrevRange, Abbrev, Form as InfoForm, StrRange as InfoStrRange, NoStrBase as InfoNoStrBase, StrxRange as InfoStrxRange, TooManyRoots, NoMemory as InfoNoMemory}
-use Rattle.line_names.specs.declared.fault.LineKind.{LineKind}
-use Rattle.line_names.specs.declared.fault.LineKind.TheVariants.{Cut as LineCut, Leb as LineLeb, NoNul as LineNoNul, Length as LineLength, Version as LineVersion, OpcodeBase, NoPath, Form as LineForm, StrRange as LineStrRange, DirIndex, NoMemory as LineNoMemory}
 use Rattle.position_table.specs.declared.fault.PosFault.{PosFault}
 use Rattle.position_table.specs.declared.fault.PosFault.TheVariants.{NoSuchPosition, NoMemory as PosNoMemory}
-use Rattle.pp_tokens.specs.declared.fault.LexFault.{LexFault}
-use Rattle.pp_tokens.specs.declared.fault.LexFault.TheVariants.{NulByte, OpenComment, NoMemory as LexNoMemory}
 use Rattle.macro_expand.specs.declared.fault.ExpandFault.{ExpandFault}
 use Rattle.macro_expand.specs.declared.fault.ExpandFault.TheVariants.{OpenCall, ArgCount, BadPaste, BadString, BadDefinition, LoneQuote, TooLong, NoMemory as ExpandNoMemory}
-use Rattle.unit_header.specs.declared.fault.UnitKind.{UnitKind}
-use Rattle.unit_header.specs.declared.fault.UnitKind.TheVariants.{Version, Flags, Cut, Leb, NoNul, OperandTable, Form, Opcode, StrRange, ImportRange, LineRange, NoStrBase, StrxRange, NoLineTable, FileIndex, ImportCycle, EndWithoutStart, StartWithoutEnd, Supplementary, TooManyEntries}
+use Rattle.pp_unit.specs.declared.fault.PpKind.{PpKind}
+use Rattle.pp_unit.specs.declared.fault.PpKind.TheVariants.{Lex, Def, Predefined, Redefined, Directive, Expr, Expand, Struct, NoSuchFile as NoSuchHeader, BadInclude, IncludeDepth, ErrorDirective, BadLine, SourceTooLong, TooManyEvents, TooMuchText, StoreFault, NoMemory as PpNoMemory}
+use Rattle.pp_unit.specs.declared.fault.PpFault.{PpFault}
 use Rattle.dwmac_run.specs.declared.refusal.Refusal.{Refusal}
-use Rattle.dwmac_run.specs.declared.refusal.Refusal.TheVariants.{NoSuchFile, FileTooLong, Elf, Info as BadInfo, Line as BadLine, Unit as BadUnit, NoSuchUnit, Position}
+use Rattle.dwmac_run.specs.declared.refusal.Refusal.TheVariants.{NoSuchFile, FileTooLong, Query, TranslationUnit, ReportTooLong}
+use Rattle.dwmac_run.specs.FaultNames.{unit_name, info_name, line_name, lex_name, def_name, directive_name, expr_name, struct_name}
+use Rattle.dwmac_run.specs.Pieces.{line_text, in_file, at_line}
 
--- the name of a kind of unit fault
-abbrev pub kind_name : UnitKind → List ℕ
-kind_name Version = codes "Version"
-kind_name Flags = codes "Flags"
-kind_name Cut = codes "Cut"
-kind_name Leb = codes "Leb"
-kind_name NoNul = codes "NoNul"
-kind_name OperandTable = codes "OperandTable"
-kind_name Form = codes "Form"
-kind_name Opcode = codes "Opcode"
-kind_name StrRange = codes "StrRange"
-kind_name ImportRange = codes "ImportRange"
-kind_name LineRange = codes "LineRange"
-kind_name NoStrBase = codes "NoStrBase"
-kind_name StrxRange = codes "StrxRange"
-kind_name NoLineTable = codes "NoLineTable"
-kind_name FileIndex = codes "FileIndex"
-kind_name ImportCycle = codes "ImportCycle"
-kind_name EndWithoutStart = codes "EndWithoutStart"
-kind_name StartWithoutEnd = codes "StartWithoutEnd"
-kind_name Supplementary = codes "Supplementary"
-kind_name TooManyEntries = codes "TooManyEntries"
+-- the part of a file that has a fault, its kind, and where it is
+abbrev pub part_words : List ℕ → List ℕ → ℕ → List (List ℕ)
+part_words part kind at = part ∷ kind ∷ codes "at" ∷ hex at ∷ []
 
--- the words on a fault of an ELF file
-abbrev pub elf_words : ElfFault → List ℕ
-elf_words NotElf = codes "Elf NotElf"
-elf_words Class = codes "Elf Class"
-elf_words Order = codes "Elf Order"
-elf_words Kind = codes "Elf Kind"
-elf_words Extended = codes "Elf Extended"
-elf_words (Table at) = codes "Elf Table at " ++ hex at
-elf_words (Range n) = codes "Elf Range section " ++ decimal n
-elf_words (Name n) = codes "Elf Name section " ++ decimal n
-elf_words (Compressed n) = codes "Elf Compressed section " ++ decimal n
-elf_words (Twice n) = codes "Elf Twice section " ++ decimal n
+-- a fault of a section of an ELF file, by the section's number
+abbrev pub section_words : List ℕ → ℕ → List (List ℕ)
+section_words kind number = codes "Elf" ∷ kind ∷ codes "section" ∷ decimal number ∷ []
 
--- the name of a kind of fault of `.debug_info`; no refusal has the last
-abbrev pub info_name : InfoKind → List ℕ
-info_name InfoCut = codes "Cut"
-info_name InfoLeb = codes "Leb"
-info_name InfoNoNul = codes "NoNul"
-info_name InfoLength = codes "Length"
-info_name InfoVersion = codes "Version"
-info_name AbbrevRange = codes "AbbrevRange"
-info_name Abbrev = codes "Abbrev"
-info_name InfoForm = codes "Form"
-info_name InfoStrRange = codes "StrRange"
-info_name InfoNoStrBase = codes "NoStrBase"
-info_name InfoStrxRange = codes "StrxRange"
-info_name TooManyRoots = codes "TooManyRoots"
-info_name InfoNoMemory = codes "NoMemory"
+-- the fault of an ELF file
+abbrev pub elf_words : ElfFault → List (List ℕ)
+elf_words NotElf = codes "Elf" ∷ codes "NotElf" ∷ []
+elf_words Class = codes "Elf" ∷ codes "Class" ∷ []
+elf_words Order = codes "Elf" ∷ codes "Order" ∷ []
+elf_words Kind = codes "Elf" ∷ codes "Kind" ∷ []
+elf_words Extended = codes "Elf" ∷ codes "Extended" ∷ []
+elf_words (Table at) = part_words (codes "Elf") (codes "Table") at
+elf_words (Range number) = section_words (codes "Range") number
+elf_words (Name number) = section_words (codes "Name") number
+elf_words (Compressed number) = section_words (codes "Compressed") number
+elf_words (Twice number) = section_words (codes "Twice") number
 
--- the name of a kind of fault of a line table; no refusal has the last
-abbrev pub line_name : LineKind → List ℕ
-line_name LineCut = codes "Cut"
-line_name LineLeb = codes "Leb"
-line_name LineNoNul = codes "NoNul"
-line_name LineLength = codes "Length"
-line_name LineVersion = codes "Version"
-line_name OpcodeBase = codes "OpcodeBase"
-line_name NoPath = codes "NoPath"
-line_name LineForm = codes "Form"
-line_name LineStrRange = codes "StrRange"
-line_name DirIndex = codes "DirIndex"
-line_name LineNoMemory = codes "NoMemory"
+-- a position that is not there; no refusal has the last, here and below
+abbrev pub position_words : PosFault → List (List ℕ)
+position_words (NoSuchPosition depth) = codes "NoSuchPosition" ∷ codes "depth" ∷ decimal depth ∷ []
+position_words PosNoMemory = codes "NoMemory" ∷ []
 
--- the words on a position that is not there; no refusal has the last
-abbrev pub position_words : PosFault → List ℕ
-position_words (NoSuchPosition depth) = codes "NoSuchPosition depth " ++ decimal depth
-position_words PosNoMemory = codes "NoMemory"
+-- a text that has no expansion
+abbrev pub expand_words : ExpandFault → List (List ℕ)
+expand_words (OpenCall name) = codes "Expand" ∷ codes "OpenCall" ∷ name ∷ []
+expand_words (ArgCount name got) = codes "Expand" ∷ codes "ArgCount" ∷ name ∷ decimal got ∷ []
+expand_words (BadPaste left right) = codes "Expand" ∷ codes "BadPaste" ∷ left ∷ right ∷ []
+expand_words (BadString name) = codes "Expand" ∷ codes "BadString" ∷ name ∷ []
+expand_words (BadDefinition name) = codes "Expand" ∷ codes "BadDefinition" ∷ name ∷ []
+expand_words LoneQuote = codes "Expand" ∷ codes "LoneQuote" ∷ []
+expand_words TooLong = codes "Expand" ∷ codes "TooLong" ∷ []
+expand_words ExpandNoMemory = codes "Expand" ∷ codes "NoMemory" ∷ []
 
--- the words on a refused file
-abbrev pub words_on : Refusal → List ℕ
-words_on NoSuchFile = codes "NoSuchFile"
-words_on FileTooLong = codes "FileTooLong"
-words_on (Elf fault) = elf_words fault
-words_on (BadInfo fault) = codes "Info " ++ info_name fault.what ++ codes " at " ++ hex fault.at
-words_on (BadLine fault) = codes "Line " ++ line_name fault.what ++ codes " at " ++ hex fault.at
-words_on NoSuchUnit = codes "NoSuchUnit"
-words_on (Position fault) = position_words fault
-words_on (BadUnit fault) = codes "Unit " ++ kind_name fault.what ++ codes " at " ++ hex fault.at
+-- the fault of a query about this file
+abbrev pub query_pieces : List ℕ → QueryFault → List (List ℕ)
+query_pieces file (QueryElf fault) = in_file file ∷ elf_words fault
+query_pieces file (QueryInfo fault) = in_file file ∷ part_words (codes "Info") (info_name fault.what) fault.at
+query_pieces file (QueryLine fault) = in_file file ∷ part_words (codes "Line") (line_name fault.what) fault.at
+query_pieces file (QueryUnit fault) = in_file file ∷ part_words (codes "Unit") (unit_name fault.what) fault.at
+query_pieces file NoSuchUnit = in_file file ∷ codes "NoSuchUnit" ∷ []
+query_pieces file (QueryPosition fault) = in_file file ∷ position_words fault
+query_pieces file (QueryText fault) = codes "Text" ∷ lex_name fault ∷ []
+query_pieces file (QueryExpand fault) = expand_words fault
+query_pieces file QueryTooLong = codes "ReportTooLong" ∷ []
+query_pieces file QueryNoMemory = codes "no memory" ∷ []
 
--- the line on a refused file
-abbrev pub refusal_line : List ℕ → Refusal → List ℕ
-refusal_line file refusal = codes "dwmac: " ++ file ++ codes ": " ++ words_on refusal ++ codes "\n"
+-- the kind of a fault of a translation unit; no refusal has the last two
+abbrev pub kind_words : PpKind → List (List ℕ)
+kind_words (Lex fault) = codes "Lex" ∷ lex_name fault ∷ []
+kind_words (Def fault) = codes "Def" ∷ def_name fault ∷ []
+kind_words (Predefined name) = codes "Predefined" ∷ name ∷ []
+kind_words (Redefined name) = codes "Redefined" ∷ name ∷ []
+kind_words (Directive fault) = codes "Directive" ∷ directive_name fault ∷ []
+kind_words (Expr fault) = codes "Expr" ∷ expr_name fault ∷ []
+kind_words (Expand fault) = expand_words fault
+kind_words (Struct fault) = codes "Struct" ∷ struct_name fault ∷ []
+kind_words (NoSuchHeader name) = codes "NoSuchFile" ∷ name ∷ []
+kind_words BadInclude = codes "BadInclude" ∷ []
+kind_words IncludeDepth = codes "IncludeDepth" ∷ []
+kind_words ErrorDirective = codes "ErrorDirective" ∷ []
+kind_words BadLine = codes "BadLine" ∷ []
+kind_words (SourceTooLong name) = codes "SourceTooLong" ∷ name ∷ []
+kind_words TooManyEvents = codes "TooManyEvents" ∷ []
+kind_words TooMuchText = codes "TooMuchText" ∷ []
+kind_words StoreFault = codes "StoreFault" ∷ []
+kind_words PpNoMemory = codes "NoMemory" ∷ []
 
--- the line on a text that has no tokens; no refusal has the last
-abbrev pub text_line : LexFault → List ℕ
-text_line (NulByte line) = codes "dwmac: Text NulByte\n"
-text_line (OpenComment line) = codes "dwmac: Text OpenComment\n"
-text_line LexNoMemory = codes "dwmac: Text NoMemory\n"
+-- the path of the file that is open innermost, or that none is open
+abbrev pub file_shown : List Frame → List ℕ → List ℕ
+file_shown [] path = codes "<start>"
+file_shown (frame ∷ frames) path = path
 
--- the words on a text that has no expansion; no refusal has the last
-abbrev pub expand_words : ExpandFault → List ℕ
-expand_words (OpenCall name) = codes "OpenCall " ++ name
-expand_words (ArgCount name got) = codes "ArgCount " ++ name ++ codes " " ++ decimal got
-expand_words (BadPaste left right) = codes "BadPaste " ++ left ++ codes " " ++ right
-expand_words (BadString name) = codes "BadString " ++ name
-expand_words (BadDefinition name) = codes "BadDefinition " ++ name
-expand_words LoneQuote = codes "LoneQuote"
-expand_words TooLong = codes "TooLong"
-expand_words ExpandNoMemory = codes "NoMemory"
+-- the first fault of a translation unit
+abbrev pub unit_pieces : PpFault → List (List ℕ)
+unit_pieces fault = at_line (file_shown fault.place.frames fault.path) fault.place.line ∷ kind_words fault.what
 
--- the line on it
-abbrev pub expand_line : ExpandFault → List ℕ
-expand_line fault = codes "dwmac: Expand " ++ expand_words fault ++ codes "\n"
+-- each fault as the pieces of its line
+abbrev pub refusal_pieces : Refusal → List (List ℕ)
+refusal_pieces (NoSuchFile file) = in_file file ∷ codes "NoSuchFile" ∷ []
+refusal_pieces (FileTooLong file) = in_file file ∷ codes "FileTooLong" ∷ []
+refusal_pieces (Query file fault) = query_pieces file fault
+refusal_pieces (TranslationUnit fault) = unit_pieces fault
+refusal_pieces ReportTooLong = codes "ReportTooLong" ∷ []
 
--- the line on a report that is too long
-abbrev pub long_report_line : List ℕ
-long_report_line = codes "dwmac: ReportTooLong\n"
+-- the line on a fault
+abbrev pub refusal_line : Refusal → List ℕ
+refusal_line fault = line_text (refusal_pieces fault)
 
--- the line on memory that ran out
+-- the line on words that fit no command, on memory that ran out, and on a shelf, a store or a sink that failed
+abbrev pub usage_line : List ℕ
+usage_line = line_text (codes "usage" ∷ [])
+
 abbrev pub no_memory_line : List ℕ
-no_memory_line = codes "dwmac: no memory\n"
+no_memory_line = line_text (codes "no memory" ∷ [])
 
--- the line on the fault of a query about this file
-abbrev pub fault_line : List ℕ → QueryFault → List ℕ
-fault_line file (QueryElf fault) = refusal_line file (Elf fault)
-fault_line file (QueryInfo fault) = refusal_line file (BadInfo fault)
-fault_line file (QueryLine fault) = refusal_line file (BadLine fault)
-fault_line file (QueryUnit fault) = refusal_line file (BadUnit fault)
-fault_line file QueryNoSuchUnit = refusal_line file NoSuchUnit
-fault_line file (QueryPosition fault) = refusal_line file (Position fault)
-fault_line file (QueryText fault) = text_line fault
-fault_line file (QueryExpand fault) = expand_line fault
-fault_line file ReportTooLong = long_report_line
-fault_line file NoMemory = no_memory_line
+abbrev pub outside_line : List ℕ
+outside_line = line_text (codes "outside fault" ∷ [])

@@ -14,8 +14,8 @@ use Rattle.mac_base.specs.ItemLines.{item_of}
 use Rattle.mac_base.specs.declared.events.Event.{Event}
 use Rattle.pp_unit.specs.Files.{Stores}
 use Rattle.pp_unit.specs.Walk.{Walk}
-use Rattle.dwmac_run.specs.Refusals.{long_report_line}
-use Rattle.dwmac_run.specs.UnitFaults.{unit_line}
+use Rattle.dwmac_run.specs.declared.refusal.Refusal.TheVariants.{TranslationUnit, ReportTooLong}
+use Rattle.dwmac_run.specs.Refusals.{refusal_line}
 use Rattle.dwmac_run.specs.Answers.{Answer, Prints, Refuses}
 
 -- the lines of what was seen, with the paths of files
@@ -28,13 +28,13 @@ event_lines files events = item_lines (named files (map item_of events))
 
 -- a report within the limit, or that it is too long
 abbrev pub reported : List ℕ → Answer
-reported text = if nat_lt most_report (length text) then Refuses long_report_line else Prints text
+reported text = if nat_lt most_report (length text) then Refuses (refusal_line ReportTooLong) else Prints text
 
 -- the answer that a fault is; that a store failed, or memory ran out, is none
 abbrev pub FaultSays : PpKind → PpFault → Answer → Type 0
 FaultSays StoreFault fault answer = ⊥
 FaultSays NoMemory fault answer = ⊥
-FaultSays kind fault answer = answer ≡ Refuses (unit_line fault)
+FaultSays kind fault answer = answer ≡ Refuses (refusal_line (TranslationUnit fault))
 
 -- the answer that a walk is
 abbrev pub WalkSays : Result Marked PpFault → Answer → Type 0

@@ -1,16 +1,68 @@
-ghost use Rattle.std.specs.Prelude.{◌≡◌};
+ghost use Rattle.std.specs.Prelude.{◌≡◌, ◌++◌, IfOk, OnOk};
+ghost use Rattle.std.specs.List.{flat_map};
 ghost use Rattle.dwmac_run.specs.Help as spec;
+ghost use Rattle.dwmac_run.specs.Commands.{row_seen, option_help, operand_help};
 
-/// How the program is called.
-pub fn help_text() -> &'static [u8]
-    ensures { result.now ≡ spec.help_text }
+use crate::commands::{CommandOption, CommandRow, Operand, VERBS, Verb};
+use mac_base::{Bytes, NoMemory};
+use std::alloc::Global;
+
+/// How the program is called: a line for each command, in the order of the list of commands.
+pub fn help_text(alloc: Global) -> Result<Bytes, NoMemory>
+    ensures { IfOk result (λ text. text ≡ spec.help_text) }
 {
-    b"usage: dwmac raw FILE\n       dwmac unit FILE OFF\n       dwmac dump FILE\n       dwmac info FILE POS NAME\n       dwmac list FILE POS\n       dwmac expand FILE POS TEXT\n       dwmac once FILE POS TEXT\n       dwmac events [-I DIR].. [-D DEF].. [-U NAME].. SRC\n       dwmac --help\n       dwmac --version\nThe words of -I, -D and -U stand apart: -D X=1\n"
+    let mut text = Vec::new(alloc);
+    push_lines(&mut text, &VERBS)?;
+    text.extend_from_slice(b"The words of -I, -D and -U stand apart: -D X=1\n")?;
+    Ok(Bytes::from_vec(text))
 }
 
 /// Which program it is.
-pub fn version_text() -> &'static [u8]
-    ensures { result.now ≡ spec.version_text }
+pub fn version_text(alloc: Global) -> Result<Bytes, NoMemory>
+    ensures { IfOk result (λ text. text ≡ spec.version_text) }
 {
-    b"dwmac 0.1.0\n"
+    Bytes::from_slice(alloc, b"dwmac 0.1.0\n")
+}
+
+/// Appends the lines of commands.
+fn push_lines(text: &mut Vec<u8>, verbs: &[Verb]) -> Result<(), NoMemory>
+    ensures { OnOk result (text.new.items ≡ text.old.items ++ spec.help_lines spec.first_margin verbs.now) }
+{
+    let mut margin = b"usage: ".as_slice();
+    for verb in verbs {
+        text.extend_from_slice(margin)?;
+        push_line(text, verb.row())?;
+        margin = b"       ".as_slice();
+    }
+    Ok(())
+}
+
+/// Appends the line of a command.
+fn push_line(text: &mut Vec<u8>, row: CommandRow) -> Result<(), NoMemory>
+    ensures { OnOk result (text.new.items ≡ text.old.items ++ spec.help_line (row_seen row)) }
+{
+    text.extend_from_slice(b"dwmac ")?;
+    text.extend_from_slice(row.word)?;
+    push_options(text, row.options)?;
+    push_operands(text, row.operands)?;
+    text.push(b'\n')?;
+    Ok(())
+}
+
+fn push_options(text: &mut Vec<u8>, options: &[CommandOption]) -> Result<(), NoMemory>
+    ensures { OnOk result (text.new.items ≡ text.old.items ++ flat_map option_help options.now) }
+{
+    for option in options {
+        text.extend_from_slice(option.help())?;
+    }
+    Ok(())
+}
+
+fn push_operands(text: &mut Vec<u8>, operands: &[Operand]) -> Result<(), NoMemory>
+    ensures { OnOk result (text.new.items ≡ text.old.items ++ flat_map operand_help operands.now) }
+{
+    for operand in operands {
+        text.extend_from_slice(operand.help())?;
+    }
+    Ok(())
 }

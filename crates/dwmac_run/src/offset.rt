@@ -1,5 +1,5 @@
 ghost use Rattle.std.specs.Prelude.{◌≡◌, ◌≤◌, ◌<◌, length, IfSome};
-ghost use Rattle.dwmac_run.specs.Command as spec;
+ghost use Rattle.dwmac_run.specs.Offsets as spec;
 
 /// The offset that the word spells: `0x` and 1 to 16 hexadecimal digits of either case.
 pub fn offset_of(word: &[u8]) -> Option<u64>
@@ -14,7 +14,7 @@ pub fn offset_of(word: &[u8]) -> Option<u64>
 /// The number of hexadecimal digits, if all are digits.
 fn hex(digits: &[u8]) -> Option<u64>
     requires { length digits.now ≤ 16 }
-    ensures { result ≡ spec.hex_behind 0 digits.now }
+    ensures { result ≡ spec.hex_after 0 digits.now }
 {
     let mut number = 0;
     for byte in digits {

@@ -4,7 +4,7 @@ ghost use Rattle.dwmac_run.specs.declared.roots.RootsFault.TheVariants.{NoMemory
 ghost use Rattle.dwmac_run.specs.Command as spec;
 ghost use Rattle.dwmac_run.specs.Roots.{AreRoots, AreFew, AreWanted, labels};
 
-use crate::command::{Command, command_of};
+use crate::request::{Request, request_of};
 use mac_base::{Bytes, NoMemory, Paths};
 use mac_io::{HeaderStore, Headers, SearchPath};
 use std::alloc::Global;
@@ -41,8 +41,8 @@ pub fn roots_of(alloc: Global, words: &Paths) -> Result<Roots, RootsFault>
     ensures roots { AreRoots (spec.labels_of words.now) result }
     ensures few { AreFew result }
 {
-    match command_of(alloc, words.as_slice()) {
-        Ok(Some(command)) => Ok(Roots::Labelled(labels_by(alloc, command)?)),
+    match request_of(alloc, words.as_slice()) {
+        Ok(Some(request)) => Ok(Roots::Labelled(labels_by(alloc, request)?)),
         Ok(None) => Err(RootsFault::Usage),
         Err(NoMemory) => Err(RootsFault::NoMemory),
     }
@@ -60,7 +60,7 @@ pub fn labels_for(alloc: Global, words: &Paths) -> Result<Paths, NoMemory>
     }
 }
 
-/// Puts a store on a path, behind the others.
+/// Puts a store on a path, after the others.
 pub fn add_store(
     path: &mut SearchPath,
     label: &Bytes,
@@ -75,21 +75,23 @@ pub fn add_store(
     }
 }
 
-/// The labels of the stores that a command needs.
-fn labels_by(alloc: Global, command: Command<'_>) -> Result<Paths, NoMemory>
-    ensures { IfOk result (λ labels. labels ≡ spec.labels_by (spec.plain command.entry)) }
+/// The labels of the stores that a request needs.
+fn labels_by(alloc: Global, request: Request) -> Result<Paths, NoMemory>
+    ensures { IfOk result (λ labels. labels ≡ spec.labels_by request) }
 {
-    let mut labels = folders_of(alloc, command).into_vec();
+    let mut labels = folders_of(alloc, request).into_vec();
     labels.insert(0, Bytes::new(alloc))?;
     Ok(Paths::from_vec(labels))
 }
 
-/// The folders for headers that a command names.
-fn folders_of(alloc: Global, command: Command<'_>) -> Paths
-    ensures { result ≡ spec.folders_of (spec.plain command.entry) }
+/// The folders for headers that a request names.
+fn folders_of(alloc: Global, request: Request) -> Paths
+    ensures { result ≡ spec.folders_of request }
 {
-    match command {
-        Command::Events(_, folders) => folders,
-        _ => Paths::new(alloc),
+    match request {
+        Request::Events { folders, .. } => folders,
+        Request::Query { .. } => Paths::new(alloc),
+        Request::Help => Paths::new(alloc),
+        Request::Version => Paths::new(alloc),
     }
 }

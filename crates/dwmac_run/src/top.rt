@@ -1,10 +1,10 @@
-ghost use Rattle.std.specs.Prelude.{◌≡◌, ◌≢◌, ◌≤◌, ◌⊎◌, [], Some};
+ghost use Rattle.std.specs.Prelude.{◌≡◌, ◌≢◌, ◌≤◌, ◌⊎◌, []};
 ghost use Rattle.mac_io.specs.Causes.{Rose};
-ghost use Rattle.mac_io.specs.Files.{Files};
-ghost use Rattle.dwmac_run.specs.Units.{AllTold};
+ghost use Rattle.mac_io.specs.Calls.{grown};
 ghost use Rattle.dwmac_run.specs.Roots.{IsPathFor};
 ghost use Rattle.dwmac_run.specs.Answers.{Answer};
-ghost use Rattle.dwmac_run.specs.Answer.{IsAnswer};
+ghost use Rattle.dwmac_run.specs.Answer.{IsAnswer, IsTold};
+ghost use Rattle.dwmac_run.specs.Refusals.{outside_line};
 ghost use Rattle.dwmac_run.specs.Leaves.{Leaves};
 
 use crate::finish::finish;
@@ -30,14 +30,18 @@ pub fn run<P: Headers, S: Shelf, O: Sink, E: Sink>(
     ensures answered { (answer : Answer) × IsAnswer words.now (S.files shelf.old) (P.stores path.old) answer × Leaves answer result
         (record { out = O.text out.old; err = E.text err.old }) (record { out = O.text out.new; err = E.text err.new }) }
 
-    // Where the shelf and the stores tell their files it has no other answer: so `Ok`, `Refused` and `Usage` come exactly where the words
-    // and the files call for them, unless memory runs out or the outside fails.
-    ensures only { (files : Files) → S.files shelf.old ≡ Some files → AllTold (P.stores path.old) → (answer : Answer) → IsAnswer words.now (Some files) (P.stores path.old) answer → Leaves answer result
+    // Where what the words ask for is read from told files (the shelf for a query, the stores for a translation unit) it has no other
+    // answer: so `Ok`, `Refused` and `Usage` come exactly where the words and the files call for them, unless memory runs out or the
+    // outside fails.
+    ensures only { IsTold words.now (S.files shelf.old) (P.stores path.old) → (answer : Answer) → IsAnswer words.now (S.files shelf.old) (P.stores path.old) answer → Leaves answer result
         (record { out = O.text out.old; err = E.text err.old }) (record { out = O.text out.new; err = E.text err.new }) }
 
     // The outside is blamed only where a call on it failed.
     ensures outside { result ≡ Status.Outside → (Rose (P.count path.old) (P.count path.new) ⊎ Rose (S.count shelf.old) (S.count shelf.new))
         ⊎ (Rose (O.count out.old) (O.count out.new) ⊎ Rose (E.count err.old) (E.count err.new)) }
+
+    // Where the outside is blamed and no write to `err` failed, `err` grew by the whole line on that.
+    ensures blamed { result ≡ Status.Outside → (Rose (E.count err.old) (E.count err.new) → ⊥) → E.text err.new ≡ grown (E.text err.old) outside_line }
 
     // No failure is passed over: where the outside is not blamed, no call on it failed.
     ensures kept { result ≢ Status.Outside → (P.count path.new ≡ P.count path.old) × (S.count shelf.new ≡ S.count shelf.old)

@@ -9,6 +9,7 @@ ghost use Rattle.dwmac_run.specs.Units.{UnitAnswer, FaultSays, event_lines, repo
 ghost use Rattle.dwmac_run.specs.Outcome.{answer_of, HasFailed, IsText};
 
 use crate::outcome::Outcome;
+use crate::refusal::Refusal;
 use itoa::Buffer;
 use mac_base::{Bytes, Event, Events, NoMemory};
 use mac_io::Headers;
@@ -19,7 +20,7 @@ use std::alloc::Global;
 const MOST_REPORT: usize = 1_073_741_824;
 
 /// `events`: the events of a translation unit.
-pub fn events<'w, P: Headers>(alloc: Global, path: &mut P, unit: &UnitSpec) -> Outcome<'w>
+pub fn events<P: Headers>(alloc: Global, path: &mut P, unit: &UnitSpec) -> Outcome
     requires { 0 < length (P.stores path.old) }
     ensures answer { IfSome (answer_of result) (UnitAnswer (P.stores path.old) unit.now) }
     ensures same { P.stores path.new ≡ P.stores path.old }
@@ -32,25 +33,25 @@ pub fn events<'w, P: Headers>(alloc: Global, path: &mut P, unit: &UnitSpec) -> O
 }
 
 /// What the first fault comes to.
-fn stop<'w>(fault: PpFault) -> Outcome<'w>
+fn stop(fault: PpFault) -> Outcome
     ensures answer { IfSome (answer_of result) (FaultSays fault.what fault) }
     ensures works { HasFailed result ↔ (fault.what ≡ PpKind.StoreFault) }
 {
     match fault.what {
         PpKind::StoreFault => Outcome::Failed,
         PpKind::NoMemory => Outcome::NoMemory,
-        _ => Outcome::BadUnit(fault),
+        _ => Outcome::Refused(Refusal::TranslationUnit(fault)),
     }
 }
 
 /// The lines of the events.
-fn report<'w>(alloc: Global, events: &Events) -> Outcome<'w>
+fn report(alloc: Global, events: &Events) -> Outcome
     ensures answer { IfSome (answer_of result) (λ answer. answer ≡ reported (event_lines events.now.files events.now.list)) }
     ensures works { HasFailed result → ⊥ }
 {
     match text_of(alloc, events.files.as_slice(), events.list.as_slice()) {
         Ok(Some(text)) => Outcome::Report(Bytes::from_vec(text)),
-        Ok(None) => Outcome::TooLong,
+        Ok(None) => Outcome::Refused(Refusal::ReportTooLong),
         Err(_) => Outcome::NoMemory,
     }
 }

@@ -1,5 +1,5 @@
-use crate::{InfoFault, InfoKind, Root, read_roots, write_roots};
-use mac_base::{Bytes, Sections};
+use crate::{InfoFault, InfoKind, Root, read_roots};
+use mac_base::Sections;
 use std::alloc::{AllocError, Global};
 use std::test::Fail;
 
@@ -61,49 +61,6 @@ fn a_written_root_is_read(rt: HostRuntime) -> Result<(), Fail> {
     let roots = read_roots(rt.alloc(), &sections(LINKED, WRITTEN))?;
     assert_eq!(rt; roots.len(), 1);
     assert!(rt; of(&roots[0]) == (b"m.c".as_slice(), b".".as_slice(), 10, Some(0), None, false));
-    Ok(())
-}
-
-#[test]
-fn roots_are_written_in_both_formats(rt: HostRuntime) -> Result<(), Fail> {
-    let alloc = rt.alloc();
-    let mut roots = Vec::new(alloc);
-    roots.push(Root {
-        name: Bytes::from_slice(alloc, b"m.c")?,
-        dir: Bytes::from_slice(alloc, b".")?,
-        macros: 10,
-        line: Some(0),
-        str_base: None,
-        wide: false,
-    })?;
-    roots.push(Root {
-        name: Bytes::new(alloc),
-        dir: Bytes::from_slice(alloc, b"/t")?,
-        macros: 0x0102,
-        line: None,
-        str_base: Some(16),
-        wide: true,
-    })?;
-    let (info, abbrevs) = write_roots(alloc, roots.as_slice())?;
-    assert_eq!(rt; abbrevs.as_slice(), WRITTEN);
-    assert_eq!(rt; &info.as_slice()[..LINKED.len()], LINKED);
-    assert_eq!(rt;
-        &info.as_slice()[LINKED.len()..],
-        b"\xff\xff\xff\xff\x21\0\0\0\0\0\0\0\x05\0\x01\x08\0\0\0\0\0\0\0\0\x04\0/t\0\x02\x01\0\0\0\0\0\0\x10\0\0\0\0\0\0\0".as_slice()
-    );
-    let again = read_roots(alloc, &sections(info.as_slice(), abbrevs.as_slice()))?;
-    assert_eq!(rt; again.len(), 2);
-    assert!(rt;
-        of(&again[1])
-            == (
-                b"".as_slice(),
-                b"/t".as_slice(),
-                0x0102,
-                None,
-                Some(16),
-                true
-            )
-    );
     Ok(())
 }
 

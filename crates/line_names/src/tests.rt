@@ -1,5 +1,5 @@
-use crate::{LineFault, LineKind, read_files, write_lines};
-use mac_base::{Bytes, Paths, Sections};
+use crate::{LineFault, LineKind, read_files};
+use mac_base::Sections;
 use std::alloc::{AllocError, Global};
 use std::test::Fail;
 
@@ -188,32 +188,5 @@ fn faults_of_the_header_name_their_field(rt: HostRuntime) -> Result<(), Fail> {
             })
         );
     }
-    Ok(())
-}
-
-/// The table of `LINKED` in the 64-bit format.
-const WIDE: &[u8] =
-    b"\xff\xff\xff\xff\x34\0\0\0\0\0\0\0\x05\0\x08\0\x28\0\0\0\0\0\0\0\x01\x01\x01\xfb\x0e\x0d\0\x01\x01\x01\x01\0\0\0\x01\0\0\x01\
-    \x01\x01\x08\x01.\0\x02\x01\x08\x02\x0f\x02m.c\0\0m.h\0\0";
-
-#[test]
-fn written_tables_follow_one_another(rt: HostRuntime) -> Result<(), Fail> {
-    let alloc = rt.alloc();
-    let mut files = Paths::new(alloc);
-    files.push(Bytes::from_slice(alloc, b"m.c")?)?;
-    files.push(Bytes::from_slice(alloc, b"m.h")?)?;
-    let mut bytes = Vec::new(alloc);
-    write_lines(&mut bytes, &files, true)?;
-    write_lines(&mut bytes, &files, false)?;
-    assert_eq!(rt; &bytes[..WIDE.len()], WIDE);
-    assert_eq!(rt; &bytes[WIDE.len()..], LINKED);
-    assert_eq!(rt;
-        printed(alloc, bytes.as_slice(), 0)?.as_slice(),
-        b"m.c\nm.h\n".as_slice()
-    );
-    assert_eq!(rt;
-        printed(alloc, bytes.as_slice(), WIDE.len() as u64)?.as_slice(),
-        b"m.c\nm.h\n".as_slice()
-    );
     Ok(())
 }

@@ -174,19 +174,19 @@ fn copies_are_alike(rt: HostRuntime) -> Result<(), Fail> {
 #[test]
 fn kinds_and_spellings_are_told(rt: HostRuntime) -> Result<(), Fail> {
     let tokens = lex_text(rt.alloc(), b"# ## %: %:%: a '")?;
-    let mut hashes = 0;
-    let mut pastes = 0;
     for token in tokens.as_slice() {
-        if token.is_hash() && token.is_punctuator() {
-            hashes += 1;
-        }
-        if token.is_paste() && token.is_punctuator() {
-            pastes += 1;
-        }
+        assert_eq!(rt;
+            token.is_hash(),
+            token.is_spelled(b"#") || token.is_spelled(b"%:")
+        );
+        assert_eq!(rt;
+            token.is_paste(),
+            token.is_spelled(b"##") || token.is_spelled(b"%:%:")
+        );
+        assert_eq!(rt; token.is_punctuator(), token.is_hash() || token.is_paste());
         assert_eq!(rt; token.is_identifier(), is_identifier(token.text.as_slice()));
         assert_eq!(rt; token.is_lone_quote(), token.is_spelled(b"'"));
     }
-    assert_eq!(rt; hashes, 2);
-    assert_eq!(rt; pastes, 2);
+    assert_eq!(rt; tokens.len(), 6);
     Ok(())
 }
