@@ -15,7 +15,7 @@ demo:
 
 # The gate: proofs, wrong bodies, tests and programs; then the program itself at the edges, and README's transcripts, which print nothing where all is well.
 test:
-	@echo "Proving and testing $$(grep -vcE '^ *(#|$$)' crates.txt) crates: about 80 minutes from nothing on four processors; a later run does only what changed."
+	@echo "Proving and testing $$(grep -vcE '^ *(#|$$)' crates.txt) crates: more than an hour from nothing on four processors; a later run does only what changed."
 	@set -o pipefail; rt ci 2>&1 | scripts/progress --all && scripts/edges && scripts/transcripts
 
 install: build
