@@ -11,7 +11,7 @@ use Rattle.mac_base.specs.Spelling.{IsUleb, IsSleb, IsFixed, IsString, Between}
 use Rattle.mac_base.proofs.Choices.{same_ok, guarded, guarded_not}
 use Rattle.mac_base.proofs.SpellingLemmas.{leb_digits_takes, leb_digits_again, before_nul_takes, before_nul_again}
 
--- the bytes that are passed over stand between
+-- the bytes that are passed over are between
 pub between_taken : (p : Input) (k : ℕ) → k ≤ length (rest p) → Between p (ahead p k) (take k (rest p))
 between_taken p k within = record {
   front = sym (take-append-drop k (rest p)) ∙ ap (λ xs. take k (rest p) ++ xs) (drop-drop k p.at p.bytes);
@@ -38,13 +38,13 @@ between_cut p q front back between =
       record { front = left; place = between.place ∙ ap (λ n. record { bytes = p.bytes; at = n }) far },
     )
 
--- the place behind a front of what is left
+-- the place after a prefix of what is left
 pub between_front : (p : Input) (front more : List ℕ) → rest p ≡ front ++ more → Between p (ahead p (length front)) front
 between_front p front more is =
     let left : drop (p.at + length front) p.bytes ≡ more = sym (drop-drop (length front) p.at p.bytes) ∙ ap (drop (length front)) is ∙ drop_at front more (length front) refl in
     record { front = is ∙ ap (λ xs. front ++ xs) (sym left); place = refl }
 
--- a stretch that is the front of what is left, and where it ends
+-- a stretch that is the prefix of what is left, and where it ends
 between_found : (p q : Input) (ds : List ℕ) → rest p ≡ ds ++ drop (length ds) (rest p) → ahead p (length ds) ≡ q → Between p q ds
 between_found p q ds is place = subst (λ (z : Input). Between p z ds) place (between_front p ds (drop (length ds) (rest p)) is)
 

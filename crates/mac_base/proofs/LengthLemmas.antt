@@ -1,38 +1,19 @@
 -- The length of a unit is what its bytes spell, and what is spelled is read.
-use Rattle.std.proofs.Common.{◌≡◌, ℕ, zero, suc, ◌+◌, ◌<◌, ◌≤◌, ◌^◌, Bool, true, false, ltb, cond, List, [], ◌∷◌, ◌++◌, length, drop, Result, Ok, Err, refl, ap, subst, ◌∙◌, sym, arith}
-use Rattle.std.proofs.Math.Nat.{pow-succ'}
-use Rattle.std.specs.List.{AllByRecursion}
+use Rattle.std.proofs.Common.{◌≡◌, ℕ, ◌+◌, ◌<◌, ◌≤◌, Bool, true, false, ltb, cond, List, ◌++◌, length, Result, Ok, Err, refl, ap, subst, ◌∙◌, sym, arith}
+use Rattle.std.proofs.Math.Dec.{eqb}
+use Rattle.std.proofs.lemmas.Bool.Decides.{Decides-eqb}
 use borrow.Author.Tests.{ltb-true, ltb-false, lt-ltb}
 use Rattle.mac_base.specs.declared.cursor.CursorFault.{CursorFault}
 use Rattle.mac_base.specs.declared.extent.Extent.{Extent}
 use Rattle.mac_base.specs.declared.extent.ExtentFault.{ExtentFault}
 use Rattle.mac_base.specs.declared.extent.ExtentFault.TheVariants.{Cut, Length}
-use Rattle.mac_base.specs.Input.{Input, rest, ahead}
-use Rattle.mac_base.specs.Fields.{number_at, little_endian}
+use Rattle.mac_base.specs.Input.{Input, ahead}
+use Rattle.mac_base.specs.Fields.{number_at}
 use Rattle.mac_base.specs.Spelling.{IsFixed, Between}
 use Rattle.mac_base.specs.Extents.{extent_of, extent_by, wide_extent, bounded_by}
 use Rattle.mac_base.specs.LengthSpelling.{IsLength}
 use Rattle.mac_base.proofs.Choices.{same_ok, guarded_not}
 use Rattle.mac_base.proofs.InputLemmas.{between_both, between_cut, number_at-takes, number_at-again}
-
-all_after : (n : ℕ) (xs : List ℕ) → AllByRecursion (λ b. b < 256) xs → AllByRecursion (λ b. b < 256) (drop n xs)
-all_after zero xs are = are
-all_after (suc n) [] are = are
-all_after (suc n) (x ∷ xs) are = all_after n xs are.1
-
-all_before : (xs ys : List ℕ) → AllByRecursion (λ b. b < 256) (xs ++ ys) → AllByRecursion (λ b. b < 256) xs
-all_before [] ys are = tt
-all_before (x ∷ xs) ys are = (are.0, all_before xs ys are.1)
-
-little_endian_below : (bs : List ℕ) → AllByRecursion (λ b. b < 256) bs → little_endian bs < 256 ^ length bs
-little_endian_below [] are = omega arith
-little_endian_below (b ∷ bs) are = omega (arith, are.0, little_endian_below bs are.1, pow-succ' 256 (length bs))
-
--- a number of four bytes
-below_four : (p q : Input) (bytes : List ℕ) (n : ℕ) → AllByRecursion (λ b. b < 256) p.bytes → Between p q bytes → IsFixed 4 bytes n → n < 256 ^ 4
-below_four p q bytes n are between is =
-    let these : AllByRecursion (λ b. b < 256) bytes = all_before bytes (rest q) (subst (AllByRecursion (λ b. b < 256)) between.front (all_after p.at p.bytes are)) in
-    rw (is.number) (subst (λ k. little_endian bytes < 256 ^ k) is.long (little_endian_below bytes these))
 
 abbrev IsSpelled : Input → Extent → Type 0
 IsSpelled p e = (q : Input) × (bytes : List ℕ) × (n : ℕ) × Between p q bytes × IsLength e.wide bytes n × (e.start ≡ q.at) × (e.end ≡ q.at + n) × (e.end ≤ length p.bytes)
@@ -53,32 +34,29 @@ narrow_takes p long e read small is =
     let found = number_at-takes 4 p long.1 long.0 read in
     spelled_by p long.1 found.0 false long.0 e found.1 (found.2, small) is
 
-wide_takes : (p : Input) (long : ℕ × Input) (e : Extent) → AllByRecursion (λ b. b < 256) p.bytes → number_at 4 p ≡ Ok long → 0xffff_ffff ≤ long.0
-    → (r : Result (ℕ × Input) CursorFault) → number_at 8 long.1 ≡ r → wide_extent p.bytes p.at long.1.at r ≡ Ok e → IsSpelled p e
-wide_takes p long e are read high (Err fault) next is = cc
-wide_takes p long e are read high (Ok more) next is =
+wide_takes : (p : Input) (long : ℕ × Input) (e : Extent) → number_at 4 p ≡ Ok long → long.0 ≡ 0xffff_ffff → (r : Result (ℕ × Input) CursorFault) → number_at 8 long.1 ≡ r → wide_extent p.bytes p.at long.1.at r ≡ Ok e → IsSpelled p e
+wide_takes p long e read same (Err fault) next is = cc
+wide_takes p long e read same (Ok more) next is =
     let mark = number_at-takes 4 p long.1 long.0 read in
-    let most = below_four p long.1 mark.0 long.0 are mark.1 mark.2 in
-    let same : long.0 ≡ 0xffff_ffff = omega (arith, most) in
     let number = number_at-takes 8 long.1 more.1 more.0 next in
     spelled_by p more.1 (mark.0 ++ number.0) true more.0 e (between_both p long.1 more.1 mark.0 number.0 mark.1 number.1) (mark.0, number.0, refl, subst (IsFixed 4 mark.0) same mark.2, number.2) is
 
-by_first : (p : Input) (long : ℕ × Input) (e : Extent) (s t : Bool) → AllByRecursion (λ b. b < 256) p.bytes → number_at 4 p ≡ Ok long → ltb long.0 0xffff_fff0 ≡ s → ltb long.0 0xffff_ffff ≡ t
-    → cond s (bounded_by (length p.bytes) p.at false long.1.at long.0) (cond t (Err (Length p.at)) (wide_extent p.bytes p.at long.1.at (number_at 8 long.1))) ≡ Ok e → IsSpelled p e
-by_first p long e true t are read small high is = narrow_takes p long e read (ltb-true long.0 0xffff_fff0 small) is
-by_first p long e false true are read small high is = cc
-by_first p long e false false are read small high is = wide_takes p long e are read (ltb-false long.0 0xffff_ffff high) (number_at 8 long.1) refl is
+by_first : (p : Input) (long : ℕ × Input) (e : Extent) (s t : Bool) → number_at 4 p ≡ Ok long → ltb long.0 0xffff_fff0 ≡ s → eqb long.0 0xffff_ffff ≡ t
+    → cond s (bounded_by (length p.bytes) p.at false long.1.at long.0) (cond t (wide_extent p.bytes p.at long.1.at (number_at 8 long.1)) (Err (Length p.at))) ≡ Ok e → IsSpelled p e
+by_first p long e true t read small mark is = narrow_takes p long e read (ltb-true long.0 0xffff_fff0 small) is
+by_first p long e false true read small mark is = wide_takes p long e read ((Decides-eqb long.0 0xffff_ffff).0 mark) (number_at 8 long.1) refl is
+by_first p long e false false read small mark is = cc
 
-by_reading : (p : Input) (e : Extent) (r : Result (ℕ × Input) CursorFault) → AllByRecursion (λ b. b < 256) p.bytes → number_at 4 p ≡ r → extent_by p.bytes p.at r ≡ Ok e → IsSpelled p e
-by_reading p e (Err fault) are read is = cc
-by_reading p e (Ok long) are read is = by_first p long e (ltb long.0 0xffff_fff0) (ltb long.0 0xffff_ffff) are read refl refl is
+by_reading : (p : Input) (e : Extent) (r : Result (ℕ × Input) CursorFault) → number_at 4 p ≡ r → extent_by p.bytes p.at r ≡ Ok e → IsSpelled p e
+by_reading p e (Err fault) read is = cc
+by_reading p e (Ok long) read is = by_first p long e (ltb long.0 0xffff_fff0) (eqb long.0 0xffff_ffff) read refl refl is
 
-pub length-takes : (p : Input) (e : Extent) → AllByRecursion (λ b. b < 256) p.bytes → extent_of p.bytes p.at ≡ Ok e → IsSpelled p e
-length-takes p e are is = by_reading p e (number_at 4 p) are refl is
+pub length-takes : (p : Input) (e : Extent) → extent_of p.bytes p.at ≡ Ok e → IsSpelled p e
+length-takes p e is = by_reading p e (number_at 4 p) refl is
 
 pub length-again : (p q : Input) (bytes : List ℕ) (wide : Bool) (n : ℕ) → Between p q bytes → IsLength wide bytes n → extent_of p.bytes p.at ≡ bounded_by (length p.bytes) p.at wide q.at n
 length-again p q bytes false n between is =
-    ap (extent_by p.bytes p.at) (number_at-again 4 p q bytes n between is.0) ∙ ap (λ t. cond t (bounded_by (length p.bytes) p.at false q.at n) (cond (ltb n 0xffff_ffff) (Err (Length p.at)) (wide_extent p.bytes p.at q.at (number_at 8 q)))) (lt-ltb n 0xffff_fff0 is.1)
+    ap (extent_by p.bytes p.at) (number_at-again 4 p q bytes n between is.0) ∙ ap (λ t. cond t (bounded_by (length p.bytes) p.at false q.at n) (cond (eqb n 0xffff_ffff) (wide_extent p.bytes p.at q.at (number_at 8 q)) (Err (Length p.at)))) (lt-ltb n 0xffff_fff0 is.1)
 length-again p q bytes true n between is =
     let parts = between_cut p q is.0 is.1 (subst (Between p q) is.2 between) in
     let r = ahead p (length is.0) in

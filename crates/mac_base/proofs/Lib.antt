@@ -1,4 +1,5 @@
 pub mod Choices
+pub mod TestLemmas
 pub mod FieldLemmas
 pub mod SpellingLemmas
 pub mod InputLemmas
@@ -8,3 +9,4 @@ pub mod WritingLemmas
 pub mod LengthLemmas
 pub mod StringsLemmas
 pub mod DigitLemmas
+pub mod TableLemmas

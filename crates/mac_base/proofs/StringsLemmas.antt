@@ -26,7 +26,7 @@ end_is_none section none off =
     λ j within. ap (λ b. eqb b 0) (get_or-drop off section j 0) ∙ false_from_ne_true _ (none (off + j) (omega arith) (omega (arith, length-drop off section))) in
     ap is_some (before_nul_none (drop off section) later) ∙ sym (le-ltb off 0 (omega arith))
 
--- a place up to the last NUL, and one behind it
+-- a place up to the last NUL, and one after it
 string_there : (section : List ℕ) (last off : ℕ) → last < length section → eqb (get_or section last 0) 0 ≡ true → off < last + 1 → is_some (before_nul (drop off section)) ≡ true
 string_there section last off within nul before =
     let place : off + (last - off) ≡ last = omega arith in

@@ -1,15 +1,18 @@
 -- What is written of a number spells it, and is read again.
-use Rattle.std.proofs.Common.{◌≡◌, ℕ, zero, suc, ◌+◌, ◌-◌, ◌/◌, ◌%◌, ◌<◌, ◌≤◌, ◌^◌, Bool, true, false, ltb, cond, List, [], ◌∷◌, ◌++◌, length, take, set, refl, ap, ◌∙◌, sym, arith, append_assoc}
+use Rattle.std.proofs.Common.{◌≡◌, ℕ, zero, suc, ◌+◌, ◌-◌, ◌/◌, ◌%◌, ◌<◌, ◌≤◌, ◌^◌, Bool, true, false, ltb, cond, List, [], ◌∷◌, ◌++◌, length, take, set, refl, ap, ◌∙◌, sym, arith, append_assoc, lit<}
+use Rattle.std.specs.Prelude.{◌≢◌}
+use Rattle.std.specs.List.{AllByRecursion}
 use Rattle.std.proofs.Math.Nat.{pow-suc, pow-succ', div-div-eq-div-mul}
 use Rattle.std.proofs.lemmas.List.{take_more_set}
 use Rattle.std.specs.Int.{w64, to_le_bytes, bytes_low_first, byte_at}
 use borrow.Author.Tests.{ltb-true, ltb-false, lt-ltb, le-ltb}
 use Rattle.mac_base.specs.Fields.{little_endian, unsigned_leb}
-use Rattle.mac_base.specs.Spelling.{AreDigits, IsUleb, IsFixed}
-use Rattle.mac_base.specs.Writing.{seven_bit_digits, uleb_bytes, fixed_bytes}
+use Rattle.mac_base.specs.Spelling.{AreDigits, IsUleb, IsFixed, IsString}
+use Rattle.mac_base.specs.LengthSpelling.{IsLength}
+use Rattle.mac_base.specs.Writing.{seven_bit_digits, uleb_bytes, fixed_bytes, length_bytes, string_bytes}
 use Rattle.mac_base.proofs.SpellingLemmas.{digits_more}
 
-fixed_long : (k n : ℕ) → length (fixed_bytes k n) ≡ k
+pub fixed_long : (k n : ℕ) → length (fixed_bytes k n) ≡ k
 fixed_long zero n = refl
 fixed_long (suc k) n = ap suc (fixed_long k (n / 256))
 
@@ -126,3 +129,17 @@ digit_written_last room whole e r x within inside low is so_far =
     ∙ ap (λ y. take e room ++ y ∷ []) is
     ∙ ap (λ xs. take e room ++ xs) (sym (digits_last (10 - e) r (omega arith) low))
     ∙ so_far
+
+pub length_narrow : (n : ℕ) → n < 0xffff_fff0 → IsLength false (length_bytes false n) n
+length_narrow n small = (fixed_spelled 4 n (omega arith), small)
+
+pub length_wide : (n : ℕ) → n < 2 ^ 64 → IsLength true (length_bytes true n) n
+length_wide n small = (fixed_bytes 4 0xffff_ffff, fixed_bytes 8 n, refl {a = fixed_bytes 4 0xffff_ffff ++ fixed_bytes 8 n}, fixed_spelled 4 0xffff_ffff (lit< tt), fixed_spelled 8 n (omega arith))
+
+-- a length that fits both formats
+pub length_spelled : (wide : Bool) (n : ℕ) → n < 0xffff_fff0 → IsLength wide (length_bytes wide n) n
+length_spelled false n small = length_narrow n small
+length_spelled true n small = length_wide n (omega arith)
+
+pub string_spelled : (text : List ℕ) → AllByRecursion (λ b. b ≢ 0) text → IsString (string_bytes text) text
+string_spelled text none = record { ends = refl; no_nul = none }

@@ -1,5 +1,5 @@
 -- The length of a unit, and where the unit ends (DWARF 5, 7.2.2 and 7.4).
-use Rattle.std.specs.Prelude.{ℕ, ◌+◌, nat_lt, Bool, true, false, if◌then◌else◌, List, length, Result, Ok, Err}
+use Rattle.std.specs.Prelude.{ℕ, ◌+◌, ◌==◌, nat_lt, Bool, true, false, if◌then◌else◌, List, length, Result, Ok, Err}
 use Rattle.mac_base.specs.Input.{Input}
 use Rattle.mac_base.specs.Fields.{number_at}
 use Rattle.mac_base.specs.declared.cursor.CursorFault.{CursorFault}
@@ -16,12 +16,12 @@ abbrev pub wide_extent : List ℕ → ℕ → ℕ → Result (ℕ × Input) Curs
 wide_extent section at after (Ok long) = bounded_by (length section) at true long.1.at long.0
 wide_extent section at after (Err fault) = Err (Cut after)
 
--- a length of 4 bytes is below fffffff0, and the others up to fffffffe are reserved
+-- A length of 4 bytes is below fffffff0. ffffffff comes before one of 8 bytes, and the others are reserved.
 abbrev pub extent_by : List ℕ → ℕ → Result (ℕ × Input) CursorFault → Result Extent ExtentFault
 extent_by section at (Ok long) =
     if nat_lt long.0 0xffff_fff0 then bounded_by (length section) at false long.1.at long.0
-    else if nat_lt long.0 0xffff_ffff then Err (Length at)
-    else wide_extent section at long.1.at (number_at 8 long.1)
+    else if long.0 == 0xffff_ffff then wide_extent section at long.1.at (number_at 8 long.1)
+    else Err (Length at)
 extent_by section at (Err fault) = Err (Cut at)
 
 -- the extent of the unit at a place

@@ -1,5 +1,5 @@
 -- Reading a field, a value or the length of a unit and spelling it agree, and what is written is spelled so.
-use Rattle.std.specs.Prelude.{◌≡◌, ℕ, ℤ, ◌+◌, ◌<◌, ◌≤◌, ◌^◌, Bool, List, length, Ok, IsTrue}
+use Rattle.std.specs.Prelude.{◌≡◌, ◌≢◌, ℕ, ℤ, ◌+◌, ◌<◌, ◌≤◌, ◌^◌, Bool, true, false, List, length, Ok, IsTrue}
 use Rattle.std.specs.List.{AllByRecursion}
 use Rattle.mac_base.specs.Input.{Input}
 use Rattle.mac_base.specs.Fields.{bytes_at, number_at, uleb_at, sleb_at, text_at, fits_i64}
@@ -8,7 +8,7 @@ use Rattle.mac_base.specs.Values.{Value, value_at}
 use Rattle.mac_base.specs.ValueSpelling.{IsValue}
 use Rattle.mac_base.specs.Extents.{extent_of, bounded_by}
 use Rattle.mac_base.specs.LengthSpelling.{IsLength}
-use Rattle.mac_base.specs.Writing.{uleb_bytes, fixed_bytes}
+use Rattle.mac_base.specs.Writing.{uleb_bytes, fixed_bytes, length_bytes, string_bytes}
 use Rattle.mac_base.specs.declared.extent.Extent.{Extent}
 use Rattle.mac_base.specs.declared.form.Layout.{Layout}
 use Rattle.mac_base.specs.declared.value.Sizes.{Sizes}
@@ -31,9 +31,9 @@ pub record SpelledIsRead : Type 0 where
   pub text : (p q : Input) (bytes text : List ℕ) → Between p q bytes → IsString bytes text → text_at p ≡ Ok (text, q)
   pub value : (sizes : Sizes) (layout : Layout) (p q : Input) (bytes : List ℕ) (v : Value) → Between p q bytes → IsValue sizes layout bytes v → value_at sizes layout p ≡ Ok (v, q)
 
--- Of a section of bytes, the length that is read of a unit is spelled by the bytes before its first field, and the unit ends inside the section.
+-- the length that is read of a unit is spelled by the bytes before its first field, and the unit ends inside the section
 abbrev pub LengthIsSpelled : Type 0
-LengthIsSpelled = (p : Input) (e : Extent) → AllByRecursion (λ b. b < 256) p.bytes → extent_of p.bytes p.at ≡ Ok e
+LengthIsSpelled = (p : Input) (e : Extent) → extent_of p.bytes p.at ≡ Ok e
     → (q : Input) × (bytes : List ℕ) × (n : ℕ) × Between p q bytes × IsLength e.wide bytes n × (e.start ≡ q.at) × (e.end ≡ q.at + n) × (e.end ≤ length p.bytes)
 
 -- A length that is spelled is read, whatever follows: the unit ends so many bytes on, or is cut off by the section's end.
@@ -44,10 +44,13 @@ SpelledLengthIsRead = (p q : Input) (bytes : List ℕ) (wide : Bool) (n : ℕ) �
 abbrev pub OneLength : Type 0
 OneLength = (p q q' : Input) (a b : List ℕ) (wide wide' : Bool) (n n' : ℕ) → Between p q a → Between p q' b → IsLength wide a n → IsLength wide' b n' → (wide ≡ wide') × (n ≡ n') × (q ≡ q')
 
--- what is written of a number spells it, so it is read again, whatever follows; no spelling in ULEB128 is shorter
+-- what is written of a number, a length or a string spells it, so it is read again, whatever follows; no spelling in ULEB128 is shorter
 pub record WrittenIsRead : Type 0 where
   pub uleb : (n : ℕ) → n < 2 ^ 64 → IsUleb (uleb_bytes n) n
   pub shortest : (n : ℕ) (bytes : List ℕ) → IsUleb bytes n → length (uleb_bytes n) ≤ length bytes
   pub fixed : (width n : ℕ) → n < 256 ^ width → IsFixed width (fixed_bytes width n) n
   pub uleb_again : (p q : Input) (n : ℕ) → n < 2 ^ 64 → Between p q (uleb_bytes n) → uleb_at p ≡ Ok (n, q)
   pub fixed_again : (p q : Input) (width n : ℕ) → n < 256 ^ width → Between p q (fixed_bytes width n) → number_at width p ≡ Ok (n, q)
+  pub length_narrow : (n : ℕ) → n < 0xffff_fff0 → IsLength false (length_bytes false n) n
+  pub length_wide : (n : ℕ) → n < 2 ^ 64 → IsLength true (length_bytes true n) n
+  pub string : (text : List ℕ) → AllByRecursion (λ b. b ≢ 0) text → IsString (string_bytes text) text

@@ -12,13 +12,13 @@ use thiserror::Error;
 #[derive(Clone, Copy, Debug, PartialEq, Eq, Error)]
 pub enum CursorFault {
     /// The bytes end before the field does.
-    #[error("the field at {at:#x} is cut off")]
+    #[error("Cut at {at:#x}")]
     Cut { at: u64 },
     /// A LEB128 number doesn't fit 64 bits.
-    #[error("the number at {at:#x} doesn't fit 64 bits")]
+    #[error("Leb at {at:#x}")]
     Leb { at: u64 },
     /// No NUL ends a string.
-    #[error("no NUL ends the string at {at:#x}")]
+    #[error("NoNul at {at:#x}")]
     NoNul { at: u64 },
 }
 

@@ -19,10 +19,10 @@ pub struct Extent {
 #[derive(Clone, Copy, Debug, PartialEq, Eq, Error)]
 pub enum ExtentFault {
     /// The length is cut off, or the unit runs past the section, which is named by the unit's first byte.
-    #[error("the unit is cut off at {at:#x}")]
+    #[error("Cut at {at:#x}")]
     Cut { at: u64 },
     /// A reserved length, from 0xfffffff0 to 0xfffffffe.
-    #[error("the length at {at:#x} is reserved")]
+    #[error("Length at {at:#x}")]
     Length { at: u64 },
 }
 
@@ -42,7 +42,7 @@ pub fn extent_at(section: &[u8], at: usize) -> Result<Extent, ExtentFault>
     if length < 0xffff_fff0 {
         return bounded(section, at, false, cursor.at(), u64::from(length));
     }
-    if length < 0xffff_ffff {
+    if length != 0xffff_ffff {
         return Err(ExtentFault::Length { at: at as u64 });
     }
     let after_mark = cursor.at();

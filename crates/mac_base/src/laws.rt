@@ -14,8 +14,9 @@ pub fn lengths_are_exact()
     ensures unique { OneLength }
 {}
 
-/// What `push_uleb` and `push_fixed` append spells the number, is read again, and in ULEB128 is the shortest spelling:
-/// a law of the definitions that their contracts name.
+/// What `push_uleb` and `push_fixed` append spells the number, is read again, and in ULEB128 is the shortest spelling,
+/// and what `push_length` and `push_string` append spells the length or the string: a law of the definitions that their
+/// contracts name.
 pub fn writing_is_exact()
     ensures { WrittenIsRead }
 {}

@@ -45,4 +45,4 @@ pub use sections::Sections;
 pub use steps::Steps;
 pub use strings::end_of_strings;
 pub use value::{Sizes, Value, read_offset, read_value};
-pub use writing::{push_fixed, push_uleb};
+pub use writing::{push_fixed, push_length, push_section_offset, push_string, push_uleb};
