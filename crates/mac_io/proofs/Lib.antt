@@ -5,3 +5,4 @@ pub mod OneSearchLemmas
 pub mod SomeSearchLemmas
 pub mod SearchExamples
 pub mod SomeFileLemmas
+pub mod ByteLemmas

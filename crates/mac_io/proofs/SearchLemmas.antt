@@ -28,12 +28,12 @@ one_too_long stores id old new is = (id, only stores id, is)
 pub one_failed : (stores : Stores) (id : FileId) (old new : List ℕ) → FetchesFrom (told_by stores id.store) id.name source_limit FetchedFailed old new → Finds stores (id ∷ []) Failed old new
 one_failed stores id old new is = (id, only stores id, is)
 
--- a candidate that is reached behind others that are absent
+-- a candidate that is reached after others that are absent
 reached_behind : (stores : Stores) (front ids : List FileId) (id : FileId) → AreAbsent stores front → IsReached stores ids id → IsReached stores (front ++ ids) id
 reached_behind stores front ids id absent (before, after, is, none) =
     (front ++ before, after, ap (λ xs. front ++ xs) is ∙ sym (append_assoc front before (id ∷ after)), All-append (λ (other : FileId). IsFileAt (told_by stores other.store) other.name None) front before absent none)
 
--- a search goes on behind candidates that are absent
+-- a search goes on after candidates that are absent
 pub found_behind : (stores : Stores) (front ids : List FileId) (answer : Located) (old new : List ℕ) → AreAbsent stores front → Finds stores ids answer old new → Finds stores (front ++ ids) answer old new
 found_behind stores front ids (Found id) old new absent (is, found) = (reached_behind stores front ids id absent is, found)
 found_behind stores front ids Absent old new absent (none, same) = (All-append (λ (other : FileId). IsFileAt (told_by stores other.store) other.name None) front ids absent none, same)

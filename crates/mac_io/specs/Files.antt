@@ -16,6 +16,15 @@ abbrev pub AreBytes : Option (List ℕ) → Type 0
 AreBytes None = Unit {0}
 AreBytes (Some bytes) = All (λ byte. byte < 256) bytes
 
+-- each of these contents is a list of bytes
+abbrev pub AreAllBytes : List (List ℕ) → Type 0
+AreAllBytes contents = All (λ content. All (λ byte. byte < 256) content) contents
+
+-- where a store tells its files, the content of each is a list of bytes
+abbrev pub AreFilesOfBytes : Option Files → Type 0
+AreFilesOfBytes None = Unit {0}
+AreFilesOfBytes (Some files) = (name : List ℕ) → AreBytes (map.get files name)
+
 -- `file` is what a store has at a name: what it tells; where it doesn't tell, no file or any bytes
 abbrev pub IsFileAt : Option Files → List ℕ → Option (List ℕ) → Type 0
 IsFileAt None name file = AreBytes file

@@ -1,7 +1,7 @@
--- Laws of searches: where the stores tell their files, these alone decide what is found.
-use Rattle.std.specs.Prelude.{◌≡◌, ◌<◌, ℕ, List, length, Option, Some}
+-- Laws of searches: where the stores tell their files, these alone decide what is found; and what is found is bytes.
+use Rattle.std.specs.Prelude.{◌≡◌, ◌<◌, ℕ, List, ◌++◌, length, Option, Some}
 use Rattle.std.specs.List.{All}
-use Rattle.mac_io.specs.Files.{Files}
+use Rattle.mac_io.specs.Files.{Files, AreBytes, AreFilesOfBytes, IsFileAt}
 use Rattle.mac_io.specs.Search.{Finds, candidates, told_by}
 use Rattle.mac_io.specs.declared.headers.FileId.{FileId}
 use Rattle.mac_io.specs.declared.headers.Form.{Form}
@@ -32,3 +32,11 @@ TellsFiles stores = All (λ (store : List ℕ × Option Files). (files : Files) 
 -- both forms and for every name, and this answer alone.
 abbrev pub SearchIsDecided : Type 0
 SearchIsDecided = (stores : List (List ℕ × Option Files)) (includer : FileId) (form : Form) (name old : List ℕ) → TellsFiles stores → includer.store < length stores → (answer : Located) × (new : List ℕ) × IsOnFiles answer × Finds stores (candidates (length stores) includer form name) answer old new × ((other : Located) (left : List ℕ) → IsOnFiles other → Finds stores (candidates (length stores) includer form name) other old left → (other ≡ answer) × (left ≡ new))
+
+-- what a store has at a name is bytes, whether it tells its files or not
+abbrev pub FilesAreBytes : Type 0
+FilesAreBytes = (told : Option Files) (name : List ℕ) (file : Option (List ℕ)) → AreFilesOfBytes told → IsFileAt told name file → AreBytes file
+
+-- what a search finds, and appends, is bytes
+abbrev pub FoundFilesAreBytes : Type 0
+FoundFilesAreBytes = (stores : List (List ℕ × Option Files)) (ids : List FileId) (id : FileId) (old new : List ℕ) → AreFilesOfBytes (told_by stores id.store) → Finds stores ids (Found id) old new → (bytes : List ℕ) × All (λ byte. byte < 256) bytes × (new ≡ old ++ bytes)

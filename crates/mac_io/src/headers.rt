@@ -1,7 +1,7 @@
 ghost use Rattle.std.specs.Prelude.{◌≡◌, ◌↔◌, ◌<◌, ℕ, List, [], ◌∷◌, length, Option, IfOk, IsTrue};
 ghost use Rattle.mac_io.specs.Causes.{HasCause, HasStoreCause, Counts, total};
-ghost use Rattle.mac_io.specs.Files.{Files};
-ghost use Rattle.mac_io.specs.Search.{Finds, OnFound, candidates, label_of, path_text};
+ghost use Rattle.mac_io.specs.Files.{Files, AreFilesOfBytes};
+ghost use Rattle.mac_io.specs.Search.{Finds, OnFound, candidates, label_of, path_text, told_by};
 
 use mac_base::{Bytes, NoMemory};
 
@@ -65,6 +65,7 @@ pub trait Headers {
         requires { includer.now.store < length (stores self.old) }
         ensures answer { Finds (stores self.old) (candidates (length (stores self.old)) includer.now form name.now) result into.old.items into.new.items }
         ensures store { OnFound result (λ id. id.store < length (stores self.old)) }
+        ensures bytes { OnFound result (λ id. AreFilesOfBytes (told_by (stores self.old) id.store)) }
         ensures same { stores self.new ≡ stores self.old }
         ensures places { folders self.new ≡ folders self.old }
         ensures cause { HasCause (count self.old) (count self.new) (result ≡ Located.Failed) }
@@ -75,6 +76,7 @@ pub trait Headers {
         requires { 0 < length (stores self.old) }
         ensures answer { Finds (stores self.old) (record { store = 0; name = name.now } ∷ []) result into.old.items into.new.items }
         ensures store { OnFound result (λ id. id.store < length (stores self.old)) }
+        ensures bytes { OnFound result (λ id. AreFilesOfBytes (told_by (stores self.old) id.store)) }
         ensures same { stores self.new ≡ stores self.old }
         ensures places { folders self.new ≡ folders self.old }
         ensures cause { HasCause (count self.old) (count self.new) (result ≡ Located.Failed) }

@@ -1,4 +1,4 @@
-ghost use Rattle.mac_io.specs.SearchLaws.{SearchHasOneAnswer, SearchIsDecided};
+ghost use Rattle.mac_io.specs.SearchLaws.{FilesAreBytes, FoundFilesAreBytes, SearchHasOneAnswer, SearchIsDecided};
 
 /// Where the stores of a search tell their files, these alone decide which file is found, that none is, or that the first is
 /// too long.
@@ -10,4 +10,10 @@ pub fn search_has_one_answer()
 /// is too long; and only one of these.
 pub fn search_is_decided()
     ensures { SearchIsDecided }
+{}
+
+/// What a store has at a name is bytes, whether it tells its files or not; and so is what a search finds.
+pub fn files_are_bytes()
+    ensures stores { FilesAreBytes }
+    ensures search { FoundFilesAreBytes }
 {}

@@ -23,7 +23,7 @@ mod vec_sink;
 pub use dir_shelf::DirShelf;
 pub use dir_store::DirStore;
 pub use headers::{FileId, Form, Headers, Located};
-pub use laws::{search_has_one_answer, search_is_decided};
+pub use laws::{files_are_bytes, search_has_one_answer, search_is_decided};
 pub use map_shelf::{MapShelf, are_distinct};
 pub use map_store::MapStore;
 pub use real_file::each_is_a_byte;

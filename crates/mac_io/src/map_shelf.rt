@@ -4,11 +4,12 @@ ghost use Rattle.std.specs.Str.{bytes_eq};
 ghost use Rattle.std.specs.Option.{option_copied};
 ghost use Rattle.std.specs.FinMap as map;
 ghost use Rattle.mac_io.specs.Causes.{HasCause};
-ghost use Rattle.mac_io.specs.Files.{files_of, are_distinct};
+ghost use Rattle.mac_io.specs.Files.{AreAllBytes, AreFilesOfBytes, files_of, are_distinct};
 ghost use Rattle.mac_io.specs.Calls.{Fetches, FetchesFrom, Puts};
 ghost use Rattle.mac_io.specs.InMemory.{is_due, after_get, after_put};
 
 use crate::failures::Failures;
+use crate::real_file::each_is_a_byte;
 use crate::shelf::{Fetched, Put, Shelf};
 use mac_base::{Bytes, NoMemory, Paths};
 use std::alloc::Global;
@@ -25,7 +26,7 @@ pub struct MapShelf {
 
 impl Model for MapShelf {
     ghost use Rattle.std.specs.Prelude.{◌≡◌, length};
-    ghost use Rattle.mac_io.specs.Files.{files_of};
+    ghost use Rattle.mac_io.specs.Files.{AreAllBytes, files_of};
     ghost use Rattle.mac_io.specs.InMemory.{MemoryShelf};
     ghost use Rattle.mac_io.specs.Codes.{coded_shelf};
 
@@ -35,7 +36,7 @@ impl Model for MapShelf {
 
     ghost view = { λ s. record { files = files_of s.names.items s.contents.items; log = s.failures } };
 
-    ghost invariant = { λ s. length s.names.items ≡ length s.contents.items };
+    ghost invariant = { λ s. (length s.names.items ≡ length s.contents.items) × AreAllBytes s.contents.items };
 }
 
 impl MapShelf {
@@ -45,10 +46,12 @@ impl MapShelf {
         requires distinct { IsTrue (are_distinct names) }
         ensures { result ≡ record { files = files_of names contents; log = record { failing = fails.items; calls = 0; faults = 0 } } }
     {
+        let contents = contents.into_vec();
+        each_is_bytes(&contents);
         MapShelf {
             alloc,
             names: names.into_vec(),
-            contents: contents.into_vec(),
+            contents,
             failures: Failures::new(fails),
         }
     }
@@ -69,6 +72,7 @@ impl Shelf for MapShelf {
     fn get(&mut self, name: &[u8], limit: usize, into: &mut Vec<u8>) -> Fetched
         ensures answer { FetchesFrom (Some self.old.files) name.now limit result into.old.items into.new.items }
         ensures same { Some self.new.files ≡ Some self.old.files }
+        ensures bytes { AreFilesOfBytes (Some self.old.files) }
         ensures cause { HasCause self.old.log.faults self.new.log.faults (result ≡ Fetched.Failed) }
         ensures failed { IsTrue (is_due self.old.log) ↔ (result ≡ Fetched.Failed) }
         ensures after { self.new ≡ after_get self.old }
@@ -156,6 +160,15 @@ fn append(file: Option<&[u8]>, limit: usize, into: &mut Vec<u8>) -> Fetched
     }
 }
 
+/// Says in a contract that contents are bytes.
+fn each_is_bytes(contents: &[Bytes])
+    ensures { AreAllBytes contents.now }
+{
+    for content in contents {
+        each_is_a_byte(content.as_slice());
+    }
+}
+
 /// Puts a content at the place of its name, or both after the others.
 fn store(
     alloc: Global,
@@ -168,7 +181,9 @@ fn store(
     ensures even { length names.new.items ≡ length contents.new.items }
     ensures ok { OnOk result (files_of names.new.items contents.new.items ≡ map.insert (files_of names.old.items contents.old.items) name.now bytes.now) }
     ensures err { OnErr result (files_of names.new.items contents.new.items ≡ files_of names.old.items contents.old.items) }
+    ensures bytes { AreAllBytes contents.old.items → AreAllBytes contents.new.items }
 {
+    each_is_a_byte(bytes);
     let content = Bytes::from_slice(alloc, bytes)?;
     match place_of(names, name) {
         Some(place) => {

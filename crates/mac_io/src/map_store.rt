@@ -1,6 +1,6 @@
 ghost use Rattle.std.specs.Prelude.{◌≡◌, ◌↔◌, length, Some, IsTrue};
 ghost use Rattle.mac_io.specs.Causes.{HasCause};
-ghost use Rattle.mac_io.specs.Files.{files_of, are_distinct};
+ghost use Rattle.mac_io.specs.Files.{AreFilesOfBytes, files_of, are_distinct};
 ghost use Rattle.mac_io.specs.Calls.{FetchesFrom};
 ghost use Rattle.mac_io.specs.InMemory.{is_due, after_get};
 
@@ -49,6 +49,7 @@ impl HeaderStore for MapStore {
     fn fetch(&mut self, name: &[u8], limit: usize, into: &mut Vec<u8>) -> Fetched
         ensures answer { FetchesFrom (Some self.old.files) name.now limit result into.old.items into.new.items }
         ensures same { Some self.new.files ≡ Some self.old.files }
+        ensures bytes { AreFilesOfBytes (Some self.old.files) }
         ensures cause { HasCause self.old.log.faults self.new.log.faults (result ≡ Fetched.Failed) }
         ensures failed { IsTrue (is_due self.old.log) ↔ (result ≡ Fetched.Failed) }
         ensures after { self.new ≡ after_get self.old }

@@ -35,6 +35,8 @@ impl From<NoMemory> for NotWritten {
 /// Makes these bytes the content of the file at a path. A regular file, also one that a symbolic link leads to, is replaced
 /// whole and keeps its permissions: where anything fails, it is as before. What is no regular file, as a device or a
 /// pipe, is written in place. A path that is not UTF-8 is an error.
+/// No clause can say what a file of the system holds, so there is none; `a_regular_file_is_replaced_whole` and the tests after
+/// it in `real_tests.rt` show it.
 pub fn write_file<R: Files>(
     rt: &R,
     alloc: Global,

@@ -1,6 +1,6 @@
 ghost use Rattle.std.specs.Prelude.{◌≡◌, ◌<◌, ℕ, List, [], ◌∷◌, ◌++◌, length, Option, IfOk};
 ghost use Rattle.mac_io.specs.Causes.{HasCause, HasStoreCause, Counts};
-ghost use Rattle.mac_io.specs.Files.{Files};
+ghost use Rattle.mac_io.specs.Files.{Files, AreFilesOfBytes};
 ghost use Rattle.mac_io.specs.Calls.{FetchesFrom};
 ghost use Rattle.mac_io.specs.Search.{Finds, OnFound, candidates, behind, beside, source_limit, told_by};
 
@@ -33,6 +33,7 @@ pub trait Stores {
         requires { store < length (stores self.old) }
         ensures answer { FetchesFrom (told_by (stores self.old) store) name.now source_limit result into.old.items into.new.items }
         ensures same { stores self.new ≡ stores self.old }
+        ensures bytes { AreFilesOfBytes (told_by (stores self.old) store) }
         ensures places { folders self.new ≡ folders self.old }
         ensures cause { HasCause (count self.old) (count self.new) (result ≡ Fetched.Failed) }
         ensures store_cause { HasStoreCause (counts self.old) (counts self.new) (result ≡ Fetched.Failed) };
@@ -50,6 +51,7 @@ pub fn find<S: Stores>(
     requires { includer.now.store < length (S.stores stores.old) }
     ensures answer { Finds (S.stores stores.old) (candidates (length (S.stores stores.old)) includer.now form name.now) result into.old.items into.new.items }
     ensures store { OnFound result (λ id. id.store < length (S.stores stores.old)) }
+    ensures bytes { OnFound result (λ id. AreFilesOfBytes (told_by (S.stores stores.old) id.store)) }
     ensures same { S.stores stores.new ≡ S.stores stores.old }
     ensures places { S.folders stores.new ≡ S.folders stores.old }
     ensures cause { HasCause (S.count stores.old) (S.count stores.new) (result ≡ Located.Failed) }
@@ -77,6 +79,7 @@ fn ask_beside<S: Stores>(
     requires { includer.now.store < length (S.stores stores.old) }
     ensures answer { Finds (S.stores stores.old) (beside includer.now form name.now) result into.old.items into.new.items }
     ensures store { OnFound result (λ id. id.store < length (S.stores stores.old)) }
+    ensures bytes { OnFound result (λ id. AreFilesOfBytes (told_by (S.stores stores.old) id.store)) }
     ensures same { S.stores stores.new ≡ S.stores stores.old }
     ensures places { S.folders stores.new ≡ S.folders stores.old }
     ensures cause { HasCause (S.count stores.old) (S.count stores.new) (result ≡ Located.Failed) }
@@ -95,6 +98,7 @@ fn ask_beside<S: Stores>(
 fn ask_behind<S: Stores>(alloc: Global, stores: &mut S, name: &[u8], into: &mut Vec<u8>) -> Located
     ensures answer { Finds (S.stores stores.old) (behind (length (S.stores stores.old)) name.now) result into.old.items into.new.items }
     ensures store { OnFound result (λ id. id.store < length (S.stores stores.old)) }
+    ensures bytes { OnFound result (λ id. AreFilesOfBytes (told_by (S.stores stores.old) id.store)) }
     ensures same { S.stores stores.new ≡ S.stores stores.old }
     ensures places { S.folders stores.new ≡ S.folders stores.old }
     ensures cause { HasCause (S.count stores.old) (S.count stores.new) (result ≡ Located.Failed) }
@@ -120,6 +124,7 @@ pub fn ask<S: Stores>(
     requires { store < length (S.stores stores.old) }
     ensures answer { Finds (S.stores stores.old) (record { store = store; name = name.now } ∷ []) result into.old.items into.new.items }
     ensures store { OnFound result (λ id. id.store < length (S.stores stores.old)) }
+    ensures bytes { OnFound result (λ id. AreFilesOfBytes (told_by (S.stores stores.old) id.store)) }
     ensures same { S.stores stores.new ≡ S.stores stores.old }
     ensures places { S.folders stores.new ≡ S.folders stores.old }
     ensures cause { HasCause (S.count stores.old) (S.count stores.new) (result ≡ Located.Failed) }

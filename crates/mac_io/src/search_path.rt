@@ -1,5 +1,6 @@
 ghost use Rattle.std.specs.Prelude.{◌≡◌, ◌<◌, ◌≤◌, ◌+◌, ◌-◌, ◌^◌, ℕ, List, [], ◌∷◌, ◌++◌, length, min, vec_len, OnOk, OnErr, IfErr};
 ghost use Rattle.mac_io.specs.Causes.{HasCause, capped};
+ghost use Rattle.mac_io.specs.Files.{AreFilesOfBytes};
 ghost use Rattle.mac_io.specs.Calls.{FetchesFrom};
 ghost use Rattle.mac_io.specs.Search.{source_limit};
 
@@ -27,6 +28,7 @@ impl Labelled {
         ensures label { self.new.label ≡ self.old.label }
         ensures answer { FetchesFrom (files self.old.store) name.now source_limit result into.old.items into.new.items }
         ensures same { files self.new.store ≡ files self.old.store }
+        ensures bytes { AreFilesOfBytes (files self.old.store) }
         ensures place { folder self.new.store ≡ folder self.old.store }
         ensures cause { HasCause (count self.old.store) (count self.new.store) (result ≡ Fetched.Failed) }
     {

@@ -1,6 +1,6 @@
 ghost use Rattle.std.specs.Prelude.{◌≡◌, ℕ, List, Option, None};
 ghost use Rattle.mac_io.specs.Causes.{HasCause};
-ghost use Rattle.mac_io.specs.Files.{Files};
+ghost use Rattle.mac_io.specs.Files.{Files, AreFilesOfBytes};
 ghost use Rattle.mac_io.specs.Calls.{FetchesFrom};
 
 use crate::shelf::Fetched;
@@ -20,6 +20,7 @@ pub trait HeaderStore: Drop {
     fn fetch(&mut self, name: &[u8], limit: usize, into: &mut Vec<u8>) -> Fetched
         ensures answer { FetchesFrom (files self.old) name.now limit result into.old.items into.new.items }
         ensures same { files self.new ≡ files self.old }
+        ensures bytes { AreFilesOfBytes (files self.old) }
         ensures place { folder self.new ≡ folder self.old }
         ensures cause { HasCause (count self.old) (count self.new) (result ≡ Fetched.Failed) };
 
