@@ -1,19 +1,11 @@
 -- Lists of arguments that differ in one.
-use Rattle.std.proofs.Common.{◌≡◌, ℕ, Bool, true, false, cond, ◌||◌, List, [], ◌∷◌, ◌++◌, Option, Some, Result, Ok, Err, ◌⊎◌, inl, inr, refl, sym, ap, ◌∙◌, subst}
+use Rattle.std.proofs.Common.{◌≡◌, ℕ, Bool, true, false, cond, List, [], ◌∷◌, ◌++◌, Option, Some, Result, Ok, Err, ◌⊎◌, inl, inr, refl, sym, ap, ◌∙◌, subst}
 use Rattle.mac_base.specs.Input.{◌>>=◌}
 use Rattle.pp_tokens.specs.declared.token.Token.{Token}
 use Rattle.macro_expand.specs.declared.before.Before.{Before}
 use Rattle.macro_expand.specs.declared.fault.ExpandFault.{ExpandFault}
 use Rattle.macro_expand.specs.Marked.{is_named}
 use Rattle.macro_expand.specs.Substituted.{Argument, find_argument, Piece, front}
-
-pub or_first : (p q : Bool) → (p || q) ≡ false → p ≡ false
-or_first true q h = cc
-or_first false q h = refl
-
-pub or_second : (p q : Bool) → (p || q) ≡ false → q ≡ false
-or_second true q h = cc
-or_second false q h = h
 
 -- the same argument, or the two that differ where the token is their parameter
 abbrev pub Alike : Argument → Argument → Token → Option Argument → Option Argument → Type 0

@@ -1,6 +1,6 @@
 -- The arguments of a call, as they are cut out of the stack.
 use Rattle.std.proofs.Common.{◌≡◌, ℕ, zero, suc, ◌+◌, ◌-◌, ◌≤◌, Bool, true, false, cond, not, ◌&&◌, nat_eq, List, [], ◌∷◌, take, drop, length, Option, Some, None, refl, sym, ap, ◌∙◌, subst, arith, length-append}
-use Rattle.std.proofs.lemmas.Bool.{cond-true, cond-false, eqb-true}
+use Rattle.std.proofs.lemmas.Bool.{cond-true, cond-false}
 use Rattle.macro_table.specs.Definitions.{DefValue}
 use Rattle.macro_expand.specs.declared.delimiter.Delimiter.{Delimiter}
 use Rattle.macro_expand.specs.declared.delimiter.Delimiter.TheVariants.{Opens, Closes, Comma, Inner}
@@ -14,6 +14,7 @@ use Rattle.macro_expand.specs.Slots.{Place, Stands, Ends, place_of, lists_of, pl
 use Rattle.macro_expand.specs.Taking.{no_named, closes, IsCall}
 use Rattle.macro_expand.proofs.Sizes.{IsSome', split_cost, IsCut, closed_cut}
 use Rattle.macro_expand.proofs.SlotLemmas.{first_more, others_same}
+use Rattle.mac_base.proofs.TestLemmas.{and_first, and_second, zero_apart}
 
 -- lists that begin with these, and go on with a list and with others
 pub record Falls (n : ℕ) (ls args : List (List Marked)) (rest : List Marked) (others : List (List Marked)) : Type 0 where
@@ -101,13 +102,6 @@ agree (Stands m ∷ ps) commas depth =
 
 -- How many commas count.
 
-pub not_zero : (a : ℕ) → nat_eq (suc a) 0 ≡ false
-not_zero a = go (nat_eq (suc a) 0) refl
-  where
-    go : (t : Bool) → nat_eq (suc a) 0 ≡ t → t ≡ false
-    go true e = let z : suc a ≡ 0 = eqb-true (suc a) 0 e in absurd (omega arith)
-    go false e = refl
-
 split_enough : (ms : List Marked) (a b depth : ℕ) → length ms ≤ a → length ms ≤ b → split ms a depth ≡ split ms b depth
 unfolding split
 split_enough [] a b depth g h = refl
@@ -119,7 +113,7 @@ split_enough (m ∷ ms) (suc a) (suc b) depth g h =
     ∙ ap (λ l. cond (parts (delimiter_of m.token) (suc b) depth) ([] ∷ split ms (suc b - 1) depth) (to_first m l)) (split_enough ms (suc a) (suc b) (depth_behind (delimiter_of m.token) depth) (omega arith) (omega arith))
   where
     same_parts : (p : Delimiter) → parts p (suc a) depth ≡ parts p (suc b) depth
-    same_parts Comma = ap (λ t. nat_eq depth 0 && not t) (not_zero a ∙ sym (not_zero b))
+    same_parts Comma = ap (λ t. nat_eq depth 0 && not t) (zero_apart a ∙ sym (zero_apart b))
     same_parts Opens = refl
     same_parts Closes = refl
     same_parts Inner = refl
@@ -182,14 +176,6 @@ no_arguments d e = go (named_params d) e (commas_of d [])
     go : (names : List (List ℕ)) → no_named names ≡ true → (a : ℕ) → arguments_of names a [] ≡ []
     go [] e a = refl
     go (p ∷ ps) e a = cc
-
-and_first : (p q : Bool) → (p && q) ≡ true → p ≡ true
-and_first true q h = refl
-and_first false q h = cc
-
-and_second : (p q : Bool) → (p && q) ≡ true → q ≡ true
-and_second true q h = h
-and_second false q h = cc
 
 pub bare_is : (d : DefValue) (old new : List (List Marked)) (m : Marked) (cut : Cut) → (no_named (named_params d) && closes (first_delimiter (first_list old))) ≡ true → old ≡ to_first m new → cut.count ≡ 0 → hidden_names cut.hides ≡ m.hides → IsCall (Some cut) old new d
 unfolding closed

@@ -10,7 +10,8 @@ use Rattle.macro_expand.specs.declared.fault.ExpandFault.{ExpandFault}
 use Rattle.macro_expand.specs.Marked.{Names, Marked, hiding, is_named, is_hash, is_paste}
 use Rattle.macro_expand.specs.Calls.{makes_string, is_operator, paste_follows, is_free, stands_free}
 use Rattle.macro_expand.specs.Substituted.{Argument, find_argument, Piece, Word, Joins, in_place, string_of, with_else, word_of, token_put, put_in, pasted, words, first_spaced, substituted}
-use Rattle.macro_expand.proofs.AlikeLemmas.{or_first, or_second, Alike, found, bind_same}
+use Rattle.macro_expand.proofs.AlikeLemmas.{Alike, found, bind_same}
+use Rattle.mac_base.proofs.TestLemmas.{or_first, or_second}
 
 is_else : Before → Bool
 is_else Else = true

@@ -4,14 +4,7 @@ use Rattle.std.proofs.Math.Path.{fun_ext}
 use Rattle.std.proofs.lemmas.Slice.Eq.{bytes_eq-Decides}
 use Rattle.macro_expand.specs.Marked.{Names, with_name, union, intersection}
 use Rattle.macro_expand.specs.States.{members, covers_names, missing_names, common_names, AreAmong}
-
-and_first : (p q : Bool) → (p && q) ≡ true → p ≡ true
-and_first true q h = refl
-and_first false q h = cc
-
-and_second : (p q : Bool) → (p && q) ≡ true → q ≡ true
-and_second true q h = h
-and_second false q h = cc
+use Rattle.mac_base.proofs.TestLemmas.{and_first, and_second}
 
 -- a set gives the same for equal names
 at_equal : (f : Names) (x n : List ℕ) (b : Bool) → f x ≡ b → bytes_eq x n ≡ true → f n ≡ b

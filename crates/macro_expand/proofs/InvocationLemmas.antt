@@ -11,10 +11,10 @@ use Rattle.macro_expand.specs.Macros.{named_params}
 use Rattle.macro_expand.specs.Calls.{Closed, closed, inside_too, to_first, depth_behind, ends_call, parts, split, commas_of, arguments_of, arguments}
 use Rattle.macro_expand.specs.Slots.{in_front}
 use Rattle.macro_expand.specs.Invocations.{IsBalanced, Nothing, Plain, Separator, Pair, IsCallIn, IsItem, Empty, Token, Group, ArgumentList, Last, More, tokens_in, IsArgumentList, each_item, merged, items_for, IsSeparated, AreArgumentsBy, AreArguments}
-use Rattle.macro_expand.proofs.CallLemmas.{not_zero}
+use Rattle.mac_base.proofs.TestLemmas.{zero_apart}
 
 deeper : (d : ℕ) → nat_eq (d + 1) 0 ≡ false
-deeper d = let e : d + 1 ≡ suc d = omega arith in ap (λ n. nat_eq n 0) e ∙ not_zero d
+deeper d = let e : d + 1 ≡ suc d = omega arith in ap (λ n. nat_eq n 0) e ∙ zero_apart d
 
 back : (d : ℕ) → d + 1 - 1 ≡ d
 back d = omega arith
@@ -129,7 +129,7 @@ module _ (m : Marked) (ms : List Marked) (later : (d : ℕ) (c : Closed) → clo
   found_by Closes e zero c h = ended c e (sym (closed_is m ms 0 Closes e) ∙ h)
   found_by Closes e (suc d) c h =
       let k : suc d - 1 ≡ d = omega arith in
-      found_more (suc d) d c (ap (λ n. inside_too m (closed ms n)) (sym k) ∙ sym (cond-false (nat_eq (suc d) 0) _ _ (not_zero d)) ∙ sym (closed_is m ms (suc d) Closes e) ∙ h)
+      found_more (suc d) d c (ap (λ n. inside_too m (closed ms n)) (sym k) ∙ sym (cond-false (nat_eq (suc d) 0) _ _ (zero_apart d)) ∙ sym (closed_is m ms (suc d) Closes e) ∙ h)
       (λ b u. record { first = []; closing = m; more = b; tokens = refl; balanced = Nothing; matching = e; others = u })
 
 found : (list : List Marked) (d : ℕ) (c : Closed) → closed list d ≡ Some c → Found list d c
@@ -215,7 +215,7 @@ merged_is (More a comma others) s zero =
 merged_is (More a comma others) s (suc n) =
     let k : suc n - 1 ≡ n = omega arith in
     item_split s.0 (comma ∷ tokens_in others) (suc n)
-    ∙ ap (in_front a) (split_is comma (tokens_in others) (suc n) 0 Comma s.1 ∙ cond-true (parts Comma (suc n) 0) _ _ (ap not (not_zero n)) ∙ ap (λ j. [] ∷ split (tokens_in others) j 0) k ∙ ap (λ l. [] ∷ l) (merged_is others s.2 n))
+    ∙ ap (in_front a) (split_is comma (tokens_in others) (suc n) 0 Comma s.1 ∙ cond-true (parts Comma (suc n) 0) _ _ (ap not (zero_apart n)) ∙ ap (λ j. [] ∷ split (tokens_in others) j 0) k ∙ ap (λ l. [] ∷ l) (merged_is others s.2 n))
     ∙ front_end a (merged others n)
 
 -- as many commas as there are tokens are enough

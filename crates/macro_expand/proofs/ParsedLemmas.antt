@@ -15,11 +15,7 @@ use Rattle.macro_expand.specs.declared.rescan.parsed_macro.ParsedMacro.{ParsedMa
 use Rattle.macro_expand.specs.Macros.{macros_of, sound_def}
 use Rattle.macro_expand.specs.States.{name_text}
 use Rattle.macro_expand.specs.ParsedMacros.{parsed_def, parsed_value, IsMeaning, AreParsed}
-
-equal : (o : Ordering) → is_eq o ≡ true → o ≡ Equal
-equal Less e = cc
-equal Equal e = refl
-equal Greater e = cc
+use Rattle.mac_base.proofs.TestLemmas.{is_equal}
 
 same_name : (a b : List ℕ) → slice_cmp nat_cmp a b ≡ Equal → a ≡ b
 same_name a b e = finite.slice_cmp-IsAntisymmetric finite.nat_cmp-IsAntisymmetric a b e
@@ -35,7 +31,7 @@ module _ {A : Type 0} (table : TableOf ℕ) where
     where
       go : (t : Bool) → is_eq (slice_cmp nat_cmp q x.0.items) ≡ t → cond t (Some x.1) (lookup (λ (key : Vec ℕ A). is_eq (slice_cmp nat_cmp q key.items)) xs) ≡ Some v
           → (lookup (λ (key : Vec ℕ A). is_eq (slice_cmp nat_cmp q key.items)) xs ≡ Some v → IsMeaning (Some v) q (macros_of table q)) → IsMeaning (Some v) q (macros_of table q)
-      go true t e r = subst (λ (y : ParsedMacro). IsMeaning (Some y) q (macros_of table q)) (some_same x.1 v e) (subst (λ (n : List ℕ). IsMeaning (Some x.1) n (macros_of table n)) (sym (same_name q x.0.items (equal _ t))) all.0)
+      go true t e r = subst (λ (y : ParsedMacro). IsMeaning (Some y) q (macros_of table q)) (some_same x.1 v e) (subst (λ (n : List ℕ). IsMeaning (Some x.1) n (macros_of table n)) (sym (same_name q x.0.items (is_equal _ t))) all.0)
         where
           some_same : (a b : ParsedMacro) → Some a ≡ Some b → a ≡ b
           some_same a b e = cc

@@ -1,5 +1,5 @@
 -- The passes over a replacement list.
-use Rattle.std.proofs.Common.{◌≡◌, ℕ, Bool, true, false, cond, ◌&&◌, not, List, [], ◌∷◌, ◌++◌, map, length, arith, Result, Ok, Err, ◌⊎◌, inl, inr, refl, sym, ap, ◌∙◌, subst, append_assoc}
+use Rattle.std.proofs.Common.{◌≡◌, ℕ, Bool, true, false, cond, ◌&&◌, not, List, [], ◌∷◌, ◌++◌, map, Result, Ok, Err, ◌⊎◌, inl, inr, refl, sym, ap, ◌∙◌, subst, append_assoc}
 use Rattle.std.specs.Prelude.{reverse, is_some}
 use Rattle.std.proofs.lemmas.List.{append-nil, map_push, reverse-append}
 use Rattle.std.proofs.lemmas.Bool.{cond-true, cond-false}
@@ -29,10 +29,6 @@ fails_as fault r s h (inr e) = inr (h e)
 front_front : {A : Type 0} (xs ys : List A) (r : Result (List A) ExpandFault) → front xs (front ys r) ≡ front (xs ++ ys) r
 front_front xs ys (Ok zs) = ap Ok (sym (append_assoc xs ys zs))
 front_front xs ys (Err e) = refl
-
-pub none_left : {A : Type 0} (xs : List A) → length xs ≡ 0 → xs ≡ []
-none_left [] e = refl
-none_left (x ∷ xs) e = absurd (omega arith)
 
 -- The first pass.
 

@@ -13,6 +13,7 @@ use Rattle.macro_expand.specs.Marked.{Names, no_names, union, Marked, fresh, spa
 use Rattle.macro_expand.specs.Substituted.{Argument, Word, front, with_else, put_in, pasted_on, pasted, words, first_spaced, substituted}
 use Rattle.macro_expand.specs.States.{marked, hidden_names, has_paste, no_arguments}
 use Rattle.macro_expand.proofs.PassLemmas.{by_put, paste_plain, is_nil, nil_push}
+use Rattle.mac_base.proofs.TestLemmas.{or_first, or_second}
 
 -- a token more, of which the first gets the mark
 copied_on : (hides : Names) (space first : Bool) (list list2 : List HiddenToken) (before : List Marked) (b : Marked) (k : HiddenToken) → map marked list ≡ map (hiding hides) (first_spaced space before) → first ≡ is_nil before →
@@ -50,14 +51,6 @@ copied h t names e f = ap (λ k. record { token = k; hides = hidden_names h.hide
 
 pub begun : (before : List Token) (t : Token) → false ≡ is_nil (map fresh (before ++ t ∷ []))
 begun before t = sym (ap is_nil (map_push fresh before t) ∙ nil_push (map fresh before) (fresh t))
-
-or_first : (a b : Bool) → (a || b) ≡ false → a ≡ false
-or_first true b e = cc
-or_first false b e = refl
-
-or_second : (a b : Bool) → (a || b) ≡ false → b ≡ false
-or_second true b e = cc
-or_second false b e = e
 
 -- the three passes leave such tokens alone
 plain_put : (name : List ℕ) (ts : List Token) → has_paste ts ≡ false → put_in name false [] Else ts ≡ Ok (map Word (map fresh ts))

@@ -11,7 +11,8 @@ use Rattle.macro_expand.specs.Marked.{Names, Marked, hiding, is_named, is_hash, 
 use Rattle.macro_expand.specs.Calls.{makes_string, is_operator, paste_follows}
 use Rattle.macro_expand.specs.Substituted.{Argument, find_argument, Piece, Joins, front, with_else, word_of, token_put, put_in, pasted, words, first_spaced, substituted}
 use Rattle.macro_expand.specs.States.{stands_bound}
-use Rattle.macro_expand.proofs.AlikeLemmas.{or_first, or_second, Alike, found, bind_same}
+use Rattle.macro_expand.proofs.AlikeLemmas.{Alike, found, bind_same}
+use Rattle.mac_base.proofs.TestLemmas.{or_first, or_second}
 
 and_with : (p q : Bool) → (p && q) ≡ false → p ≡ true → q ≡ false
 and_with true q h e = h

@@ -9,27 +9,27 @@ use thiserror::Error;
 #[derive(Debug, Drop, Error)]
 pub enum ExpandFault {
     /// The arguments of a call of this macro are not closed (C17 6.10.3 p4).
-    #[error("a call is not closed")]
+    #[error("OpenCall {name}")]
     OpenCall { name: Bytes },
     /// A call of this macro has so many arguments, which do not fit its parameters (6.10.3 p4).
-    #[error("a call has {got} arguments, which do not fit")]
+    #[error("ArgCount {name} {got}")]
     ArgCount { name: Bytes, got: u64 },
     /// These two tokens are not one token together (6.10.3.3 p3).
-    #[error("two tokens are not one token together")]
+    #[error("BadPaste {left} {right}")]
     BadPaste { left: Bytes, right: Bytes },
     /// An argument of this macro does not make one string (6.10.3.2 p2).
-    #[error("an argument makes no string")]
+    #[error("BadString {name}")]
     BadString { name: Bytes },
     /// The text that the table has for this name is no definition.
-    #[error("a text is no definition")]
+    #[error("BadDefinition {name}")]
     BadDefinition { name: Bytes },
     /// The text has a quote that nothing closes.
-    #[error("a quote is not closed")]
+    #[error("LoneQuote")]
     LoneQuote,
     /// More than 4,194,304 tokens were put in.
-    #[error("the expansion is too long")]
+    #[error("TooLong")]
     TooLong,
-    #[error("out of memory")]
+    #[error("NoMemory")]
     NoMemory,
 }
 

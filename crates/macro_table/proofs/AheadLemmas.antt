@@ -1,6 +1,7 @@
--- What stands behind a token of a text: no byte there makes a longer token with it.
-use Rattle.std.proofs.Common.{◌≡◌, ◌≢◌, ℕ, ◌≤◌, eqb, Bool, true, false, cond, ◌&&◌, ◌||◌, List, [], ◌∷◌, ◌++◌, length, take, Option, Some, None, refl, sym, ◌∙◌, ap, arith, append_assoc, append-nil, length-append}
+-- What follows a token of a text: no byte there makes a longer token with it.
+use Rattle.std.proofs.Common.{◌≡◌, ◌≢◌, ℕ, ◌≤◌, eqb, Bool, true, false, cond, ◌&&◌, List, [], ◌∷◌, ◌++◌, length, take, Some, None, refl, sym, ◌∙◌, ap, arith, append_assoc, append-nil, length-append}
 use Rattle.std.proofs.lemmas.List.{take_at}
+use Rattle.std.proofs.lemmas.Bool.{false_from_ne_true}
 use Rattle.std.specs.List.{AllByRecursion, flat_map}
 use borrow.Author.Tests.{eqb-true}
 use lib.Chars.{codes}
@@ -10,15 +11,14 @@ use Rattle.pp_tokens.specs.declared.token.Token.{Token}
 use Rattle.pp_tokens.specs.Kinds.{begins, same, kind_of}
 use Rattle.pp_tokens.specs.Cut.{longest}
 use Rattle.pp_tokens.specs.Laws.{IsPrintable}
-use Rattle.pp_tokens.proofs.KindLemmas.{to_false, kind-from}
+use Rattle.pp_tokens.proofs.KindLemmas.{kind-from}
 use Rattle.pp_tokens.proofs.BothLemmas.{longest-none}
 use Rattle.pp_tokens.proofs.FrontOfLemmas.{Cut, within, beyond, cut_of}
 use Rattle.pp_tokens.proofs.NextLemmas.{over-neighbour}
 use Rattle.pp_tokens.proofs.AheadLemmas.{Ahead, ahead-end, ahead-blank}
 use Rattle.macro_table.specs.Texts.{spaced}
-
-no_both : {A : Type 0} (o : Option A) (x : A) → o ≡ None → o ≡ Some x → ⊥
-no_both o x none some = cc
+use Rattle.mac_base.proofs.TestLemmas.{or_false}
+use Rattle.mac_base.proofs.Choices.{no_both, stable_none}
 
 -- the longest token in front
 pub ahead_of : (t r : List ℕ) (k : Kind) → longest (t ++ r) ≡ Some (k, length t) → begins (codes "//") (t ++ r) ≡ false → begins (codes "/*") (t ++ r) ≡ false → Ahead t r
@@ -41,7 +41,7 @@ begins_less [] s r is = is
 begins_less (a ∷ p) [] r is = refl
 begins_less (a ∷ p) (b ∷ s) r is = fewer (eqb a b) _ _ (begins_less p s r) is
 
--- less of what stands behind
+-- less of what follows
 pub ahead_less : (t r z : List ℕ) → Ahead t (r ++ z) → Ahead t r
 ahead_less t r z ahead = record {
   longer = λ w y front some. ahead.longer w (y ++ z) (ap (λ x. x ++ z) front ∙ append_assoc w y z) some;
@@ -63,10 +63,6 @@ pub ahead_back : (front ts : List Token) → AllAhead (front ++ ts) → AllAhead
 ahead_back [] ts all = all
 ahead_back (t ∷ front) ts all = ahead_back front ts all.1
 
-stable_none : (o : Option Kind) → ((o ≡ None → ⊥) → ⊥) → o ≡ None
-stable_none None never = refl
-stable_none (Some k) never = absurd (never (λ is. cc))
-
 begins_two : (a b : ℕ) (s r : List ℕ) → 2 ≤ length s → begins (a ∷ b ∷ []) (s ++ r) ≡ begins (a ∷ b ∷ []) s
 begins_two a b [] r long = absurd (omega arith)
 begins_two a b (x ∷ []) r long = absurd (omega arith)
@@ -76,13 +72,8 @@ some_long : (k : Kind) (t : List ℕ) → kind_of t ≡ Some k → 1 ≤ length 
 some_long k [] is = cc
 some_long k (b ∷ t) is = omega arith
 
--- behind two dots only a third makes a token
-or_last : (x : Bool) → (x || false) ≡ x
-or_last true = refl
-or_last false = refl
-
 two_dots : (d : ℕ) (y : List ℕ) → same (d ∷ y) (codes ".") ≡ false → kind_of (46 ∷ 46 ∷ d ∷ y) ≡ None
-two_dots d y apart = kind-from (46 ∷ 46 ∷ d ∷ y) false false false false false false false refl refl refl refl (or_last (same (d ∷ y) (codes ".")) ∙ apart) refl refl
+two_dots d y apart = kind-from (46 ∷ 46 ∷ d ∷ y) false false false false false false false refl refl refl refl (or_false (same (d ∷ y) (codes ".")) ∙ apart) refl refl
 
 one_dot : (d : ℕ) (y : List ℕ) → same (d ∷ y) (codes ".") ≡ true → d ≡ 46
 one_dot d y is = by (eqb d 46) refl is
@@ -114,7 +105,7 @@ third_dot t u [] d y z first second all ahead is third = cc
 third_dot t u (v ∷ vs) d y z first second all ahead is third =
     third_by v.kind v.text v.space d y z (flat_map spaced vs) (run_on vs) t.text u.text all.0.kind is (one_dot d y third) ahead first second
 
--- a token behind which another stands without white space
+-- a token after which another is without white space
 next_by : (t u : Token) (us : List Token) (w z : List ℕ) → AllByRecursion IsPrintable (t ∷ u ∷ us) → Ahead t.text (u.text ++ run_on us) → Ahead u.text (flat_map spaced us) → w ≢ [] → Cut w z u.text (flat_map spaced us) → kind_of (t.text ++ w) ≡ None
 next_by t u us w z all ahead behind some (within y front rest) = ahead.longer w (y ++ run_on us) (ap (λ x. x ++ run_on us) front ∙ append_assoc w y (run_on us)) some
 next_by t u us w z all ahead behind some (beyond [] front rest) =
@@ -127,7 +118,7 @@ next_by t u us w z all ahead behind some (beyond (d ∷ y) front rest) =
       second = all.1.0.kind;
       second_closed = all.1.0.no_lone;
       fronts = λ x v split filled. ahead.longer x (v ++ run_on us) (ap (λ q. q ++ run_on us) split ∙ append_assoc x v (run_on us)) filled;
-      no_dots = λ first second. never (ap (λ q. kind_of (q ++ u.text ++ d ∷ y)) first ∙ ap (λ q. kind_of (46 ∷ (q ++ d ∷ y))) second ∙ two_dots d y (to_false _ (third_dot t u us d y z first second all.1.1 ahead rest)));
+      no_dots = λ first second. never (ap (λ q. kind_of (q ++ u.text ++ d ∷ y)) first ∙ ap (λ q. kind_of (46 ∷ (q ++ d ∷ y))) second ∙ two_dots d y (false_from_ne_true _ (third_dot t u us d y z first second all.1.1 ahead rest)));
       behind = behind.longer (d ∷ []) (y ++ z) rest (λ empty. cc);
     })))
 
@@ -144,7 +135,7 @@ mark_by t u us false all ahead behind =
       block = same_start 47 42 ahead.block;
     }
 
--- what is printed behind a token makes no longer one with it
+-- what is printed after a token makes no longer one with it
 pub printed_ahead : (t : Token) (ts : List Token) → AllByRecursion IsPrintable (t ∷ ts) → AllAhead (t ∷ ts) → Ahead t.text (flat_map spaced ts)
 printed_ahead t [] all aheads = ahead-end t.kind t.text all.0.kind
 printed_ahead t (u ∷ us) all aheads = mark_by t u us u.space all aheads.0 (printed_ahead u us all.1 aheads.1)

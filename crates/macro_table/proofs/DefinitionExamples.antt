@@ -13,7 +13,7 @@ use Rattle.macro_table.specs.Definitions.{DefValue}
 use Rattle.macro_table.specs.SameDefinitions.{same_def}
 use Rattle.macro_table.specs.Texts.{text_of, def_of_text}
 
--- a token of a kind, behind white space or not
+-- a token of a kind, after white space or not
 abbrev token : Kind → List ℕ → Bool → Token
 token kind text space = record { kind = kind; text = text; space = space }
 
@@ -84,7 +84,7 @@ nothing = refl
 nothing_again : text_of empty ≡ codes "EMPTY "
 nothing_again = refl
 
--- the list is part of the replacement list where white space stands before it
+-- the list is part of the replacement list where white space is before it
 abbrev object : DefValue
 object = record { name = codes "f"; params = None; variadic = false; body = mark (codes "(") true ∷ name (codes "x") false ∷ mark (codes ")") false ∷ [] }
 
@@ -142,7 +142,7 @@ hash_alone = refl
 hash_last : def_of_text (codes "f(x) x#") ≡ refused LoneHash
 hash_last = refl
 
--- #define hash_hash # ## # (6.10.3.3 p4): in an object-like macro any # may stand
+-- #define hash_hash # ## # (6.10.3.3 p4): in an object-like macro any # may be there
 hash_hash : def_of_text (codes "hash_hash # ## #") ≡ Ok (record { name = codes "hash_hash"; params = None; variadic = false; body = mark (codes "#") true ∷ mark (codes "##") true ∷ mark (codes "#") true ∷ [] })
 hash_hash = refl
 

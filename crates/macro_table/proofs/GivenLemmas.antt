@@ -52,7 +52,7 @@ longest_by None bytes (Some f) k n there is other =
     let count : f.1 ≡ n = ap count_in found in
     there ∙ (λ i. Some (kind i, count i))
 
--- where a token stands in front no comment begins
+-- where a token is in front no comment begins
 record Front (bytes : List ℕ) (k : Kind) (n : ℕ) : Type 0 where
   line : begins (codes "//") bytes ≡ false
   block : begins (codes "/*") bytes ≡ false
@@ -83,7 +83,7 @@ front_of lines header (b ∷ bs) k n other is =
 
 -- the tokens that pieces put on a line
 
--- a token that is put behind these
+-- a token that is added after these
 abbrev made : LinesSoFar → List Token → Kind → List Char → Token
 made page [] kind chars = record { kind = kind; text = bytes_of chars; space = false }
 made page (t ∷ ts) kind chars = record { kind = kind; text = bytes_of chars; space = page.space }
@@ -99,7 +99,7 @@ abbrev new_tokens : LinesSoFar → List Piece → List Token
 new_tokens page [] = []
 new_tokens page (p ∷ ps) = tokens_by page p.what p.chars (new_tokens (put page p.what p.chars) ps)
 
--- a page on whose line a token stands
+-- a page on whose line a token is
 abbrev Filled : LinesSoFar → Type 0
 Filled page = (a : Token) × (more : List Token) × (page.tokens ≡ a ∷ more)
 
@@ -130,7 +130,7 @@ made_kind : (page : LinesSoFar) (now : List Token) (k : Kind) (chars : List Char
 made_kind page [] k chars = refl
 made_kind page (t ∷ ts) k chars = refl
 
--- behind white space no token goes on
+-- after white space no token goes on
 spaced_by : (page : LinesSoFar) (what : PieceKind) (chars : List Char) (ps : List Piece) → Filled page → page.space ≡ true → ((q : LinesSoFar) → Filled q → q.space ≡ true → run_on (new_tokens q ps) ≡ []) → run_on (tokens_by page what chars (new_tokens (put page what chars) ps)) ≡ []
 spaced_by page Blank chars ps filled space inner = inner (put page Blank chars) filled refl
 spaced_by page Comment chars ps filled space inner = inner (put page Comment chars) filled refl
@@ -142,7 +142,7 @@ spaced_run : (page : LinesSoFar) (ps : List Piece) → Filled page → page.spac
 spaced_run page [] filled space = refl
 spaced_run page (p ∷ ps) filled space = spaced_by page p.what p.chars ps filled space (λ q. spaced_run q ps)
 
--- what goes on is what stands in front
+-- what goes on is what is in front
 abbrev Begins : LinesSoFar → List Piece → Type 0
 Begins page ps = (z : List ℕ) × (bytes_of (chars_of ps) ≡ run_on (new_tokens page ps) ++ z)
 
@@ -169,7 +169,7 @@ begins_all : (page : LinesSoFar) (ps : List Piece) → Filled page → Begins pa
 begins_all page [] filled = ([], refl)
 begins_all page (p ∷ ps) filled = begins_by page p.what p.chars ps filled (λ q. begins_all q ps)
 
--- What is known of a token from where it stands: it has no byte 0, and if it is no header name, it is of its kind and ends there.
+-- What is known of a token from where it is: it has no byte 0, and if it is no header name, it is of its kind and ends there.
 record Held (t : Token) (ts : List Token) : Type 0 where
   no_nul : NoNul t.text
   kind : t.kind ≢ Header → kind_of t.text ≡ Some t.kind
@@ -243,7 +243,7 @@ text_tokens page (p ∷ ps) cut =
 abbrev LineHeld : Line → Type 0
 LineHeld l = AllHeld l.tokens
 
--- the line that is begun, and those behind it
+-- the line that is begun, and those after it
 record Rest (page : LinesSoFar) (final : LinesSoFar) (new : List Token) : Type 0 where
   number : ℕ
   others : List Line

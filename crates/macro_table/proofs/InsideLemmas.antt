@@ -1,12 +1,14 @@
 -- The count of depths finds what is directly in an instance.
 use Rattle.std.proofs.Common.{◌≡◌, ◌↔◌, ℕ, zero, suc, ◌+◌, ◌-◌, ◌≤◌, ◌<◌, eqb, Bool, true, false, ◌&&◌, cond, List, [], ◌∷◌, ◌++◌, length, take, Option, Some, None, refl, sym, ◌∙◌, ap, subst, arith, append_assoc, append-nil, length-append}
-use Rattle.std.proofs.lemmas.List.{take_at, length-take, length-take-le}
+use Rattle.std.proofs.lemmas.List.{take_at, length-take, length-take-le, nil_from_length}
+use Rattle.std.proofs.lemmas.Bool.{and_from}
 use Rattle.std.proofs.Math.Seq.{take-append-add}
 use Rattle.std.specs.Option.{unwrap_or, option_map, option_and_then}
 use borrow.Author.Tests.{eqb-true}
 use Rattle.mac_base.specs.Items.{Item, Define, Undef, Start, End, depth_behind, first_inside}
 use Rattle.macro_table.specs.FileTable.{open_behind}
 use Rattle.macro_table.specs.Instances.{open_after, open_files, IsDirectlyIn, FirstInsideIsFirst}
+use Rattle.mac_base.proofs.TestLemmas.{and_rest}
 
 -- Directly in an instance, over the files that are open: those of the instance, and others in it.
 record Direct {P : Type 0} (files now : List (P × ℕ)) (before : List (Item P)) : Type 0 where
@@ -66,10 +68,6 @@ none_taken : {P : Type 0} (n : ℕ) → ◌≡◌ {A = List (Item P)} (take n []
 none_taken zero = refl
 none_taken (suc n) = refl
 
-no_files : {P : Type 0} (xs : List (P × ℕ)) → length xs ≡ 0 → xs ≡ []
-no_files [] is = refl
-no_files (x ∷ xs) is = absurd (omega arith)
-
 direct_none : {P : Type 0} (files extra : List (P × ℕ)) → extra ≡ [] → Direct files (files ++ extra) []
 direct_none {P} files extra none = record {
   same = ap (λ es. files ++ es) none ∙ append-nil files;
@@ -99,15 +97,11 @@ direct_tail {P} files extra next x before is direct = record {
 abbrev Earlier : {P : Type 0} → List (P × ℕ) → List (P × ℕ) → (Item P → Bool) → List (Item P) → Type 0
 Earlier {P} files now test before = (earlier : List (Item P)) (other : Item P) (later : List (Item P)) → before ≡ earlier ++ other ∷ later → Direct files now earlier → test other ≡ false
 
-fails_there : (x y : Bool) → x ≡ true → (x && y) ≡ false → y ≡ false
-fails_there true y is fails = fails
-fails_there false y is fails = cc
-
 earlier_cons : {P : Type 0} (test : Item P → Bool) (files extra next : List (P × ℕ)) (x : Item P) (before : List (Item P)) → (eqb (length extra) 0 && test x) ≡ false → open_behind (files ++ extra) x ≡ files ++ next →
     Earlier files (files ++ next) test before → Earlier files (files ++ extra) test (x ∷ before)
 earlier_cons test files extra next x before fails is rest [] other later whole direct =
     let first : x ≡ other = cc in
-    sym (ap test first) ∙ fails_there (eqb (length extra) 0) (test x) (ap (λ n. eqb n 0) (none_open files extra direct)) fails
+    sym (ap test first) ∙ and_rest (eqb (length extra) 0) (test x) (ap (λ n. eqb n 0) (none_open files extra direct)) fails
 earlier_cons test files extra next x before fails is rest (y ∷ earlier) other later whole direct =
     let first : y ≡ x = cc in
     rest earlier other later (cc) (direct_tail files extra next x earlier is (subst (λ z. Direct files (files ++ extra) (z ∷ earlier)) first direct))
@@ -144,7 +138,7 @@ found : {P : Type 0} (test : Item P → Bool) (files extra : List (P × ℕ)) (b
 found test files extra [] item after some is =
     let here = here_by (eqb (length extra) 0) (test item) _ is (then_zero (first_inside test after) (depth_behind item (length extra))) in
     record {
-      direct = direct_none files extra (no_files extra (eqb-true (length extra) 0 here.0));
+      direct = direct_none files extra (nil_from_length extra (eqb-true (length extra) 0 here.0));
       passes = here.1;
       first = no_earlier files (files ++ extra) test;
     }
@@ -153,9 +147,6 @@ found test files extra (x ∷ before) item after some is =
     there_by test files extra x before item after later.0 (turn_of files extra x some) later.1 (λ next inner. found test files next before item after some inner)
 
 -- and back
-
-both_true : (x y : Bool) → x ≡ true → y ≡ true → (x && y) ≡ true
-both_true x y first second = ap (λ z. z && y) first ∙ second
 
 fails_by : (x y : Bool) → (x ≡ true → y ≡ false) → (x && y) ≡ false
 fails_by true y fails = fails refl
@@ -179,11 +170,11 @@ is_found_by test files extra x before item after (ends depth short) there rest =
 is_found : {P : Type 0} (test : Item P → Bool) (files extra : List (P × ℕ)) (before : List (Item P)) (item : Item P) (after : List (Item P)) → 0 < length files →
     Found files (files ++ extra) test before item → first_inside test (before ++ item ∷ after) (length extra) ≡ Some (length before)
 is_found test files extra [] item after some there =
-    let here : (eqb (length extra) 0 && test item) ≡ true = both_true (eqb (length extra) 0) (test item) (ap (λ n. eqb n 0) (none_open files extra there.direct)) there.passes in
+    let here : (eqb (length extra) 0 && test item) ≡ true = and_from (eqb (length extra) 0) (test item) (ap (λ n. eqb n 0) (none_open files extra there.direct)) there.passes in
     ap (λ t. cond t (Some 0) (option_and_then (λ inner. option_map (λ n. n + 1) (first_inside test after inner)) (depth_behind item (length extra)))) here
 is_found test files extra (x ∷ before) item after some there =
     let fails : (eqb (length extra) 0 && test x) ≡ false =
-    fails_by (eqb (length extra) 0) (test x) (λ none. there.first [] x before refl (direct_none files extra (no_files extra (eqb-true (length extra) 0 none)))) in
+    fails_by (eqb (length extra) 0) (test x) (λ none. there.first [] x before refl (direct_none files extra (nil_from_length extra (eqb-true (length extra) 0 none)))) in
     ap (λ t. cond t (Some 0) (option_and_then (λ inner. option_map (λ n. n + 1) (first_inside test (before ++ item ∷ after) inner)) (depth_behind x (length extra)))) fails
     ∙ is_found_by test files extra x before item after (turn_of files extra x some) there (λ next inner. is_found test files next before item after some inner)
 

@@ -1,10 +1,11 @@
 -- A list of words that grows at its end.
-use Rattle.std.proofs.Common.{◌≡◌, ℕ, ◌+◌, ◌<◌, ◌≤◌, nat_eq, Bool, false, if◌then◌else◌, List, [], ◌∷◌, ◌++◌, length, take, get_or, zero, suc, refl, sym, ◌∙◌, ap, append_assoc, add-one, arith, rules}
+use Rattle.std.proofs.Common.{◌≡◌, ℕ, ◌+◌, ◌<◌, ◌≤◌, nat_eq, Bool, if◌then◌else◌, List, [], ◌∷◌, ◌++◌, length, take, get_or, zero, suc, refl, sym, ◌∙◌, ap, append_assoc, add-one, arith}
 use Rattle.std.proofs.Math.Seq.{take-suc}
 use Rattle.std.proofs.lemmas.List.{take_all}
 use Rattle.std.specs.List.{join_with_byte}
+use Rattle.mac_base.proofs.TestLemmas.{zero_apart}
 
--- what stands before a word that comes behind these
+-- what is before a word that comes after these
 abbrev gap : List (List ℕ) → List ℕ
 gap [] = []
 gap (w ∷ ws) = 44 ∷ []
@@ -18,13 +19,10 @@ join_push (w ∷ v ∷ ws) x =
     ∙ sym (append_assoc w (44 ∷ join_with_byte 44 (v ∷ ws)) (44 ∷ x))
     ∙ sym (append_assoc (w ++ 44 ∷ join_with_byte 44 (v ∷ ws)) (44 ∷ []) x)
 
-not_zero : (i : ℕ) → nat_eq (suc i) 0 ≡ false
-not_zero i = search rules
-
 gap_taken : (ws : List (List ℕ)) (i : ℕ) → i < length ws → gap (take i ws) ≡ (if nat_eq i 0 then [] else 44 ∷ [])
 gap_taken ws zero within = refl
 gap_taken [] (suc i) within = absurd (omega arith)
-gap_taken (w ∷ ws) (suc i) within = ap (λ t. if t then [] else 44 ∷ []) (sym (not_zero i))
+gap_taken (w ∷ ws) (suc i) within = ap (λ t. if t then [] else 44 ∷ []) (sym (zero_apart i))
 
 -- one word more
 pub join_next : (ws : List (List ℕ)) (i : ℕ) (x : List ℕ) (text more : List ℕ) → i < length ws → x ≡ get_or ws i x → more ≡ text ++ (if nat_eq i 0 then [] else 44 ∷ []) ++ x → (start : List ℕ) → text ≡ start ++ join_with_byte 44 (take i ws) →
@@ -38,9 +36,9 @@ join_next ws i x text more within here is start so_far =
 
 gap_of : (ws : List (List ℕ)) → (if nat_eq (length ws) 0 then [] else 44 ∷ []) ≡ gap ws
 gap_of [] = refl
-gap_of (w ∷ ws) = ap (λ t. if t then [] else 44 ∷ []) (not_zero (length ws))
+gap_of (w ∷ ws) = ap (λ t. if t then [] else 44 ∷ []) (zero_apart (length ws))
 
--- `...` behind all words
+-- `...` after all words
 pub join_last : (ws : List (List ℕ)) (i : ℕ) (is_empty : Bool) (x text more : List ℕ) → length ws ≤ i → is_empty ≡ nat_eq (length ws) 0 → more ≡ text ++ (if is_empty then [] else 44 ∷ []) ++ x → (start : List ℕ) → text ≡ start ++ join_with_byte 44 (take i ws) →
     more ≡ start ++ join_with_byte 44 (ws ++ x ∷ [])
 join_last ws i is_empty x text more all empty is start so_far =

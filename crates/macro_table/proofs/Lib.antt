@@ -1,4 +1,3 @@
-pub mod TableLemmas
 pub mod FileTableLemmas
 pub mod InsideLemmas
 pub mod RenamedLemmas

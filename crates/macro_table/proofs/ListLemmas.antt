@@ -2,6 +2,7 @@
 use Rattle.std.proofs.Common.{◌≡◌, ◌≢◌, ℕ, suc, ◌+◌, eqb, Bool, true, false, cond, not, ◌&&◌, ◌||◌, List, [], ◌∷◌, ◌++◌, length, drop, Option, Some, None, Result, Ok, Err, refl, sym, ◌∙◌, ap, subst, append_assoc, append-nil}
 use Rattle.std.specs.Option.{option_or}
 use Rattle.std.specs.List.{AllByRecursion, list_any, list_all, join_with_byte, prefix_len}
+use Rattle.std.proofs.lemmas.Bool.{and_parts}
 use lib.Chars.{codes}
 use lib.Pointwise.{pointwise}
 use Rattle.mac_base.specs.Input.{◌>>=◌}
@@ -25,7 +26,7 @@ use Rattle.macro_table.proofs.AheadLemmas.{ahead_of}
 use Rattle.macro_table.proofs.ReadingLemmas.{Reads, IsName, token_read}
 use Rattle.macro_table.proofs.ParamLemmas.{params_next}
 
--- names, and what stands behind them in a list
+-- names, and what follows them in a list
 
 identifier_by : (i n c s p q o : Bool) → kind_by i n c s p q o ≡ Some Identifier → i ≡ true
 identifier_by true n c s p q o is = refl
@@ -40,14 +41,10 @@ identifier_by false false false false false false false is = cc
 letters : (x : List ℕ) → kind_of x ≡ Some Identifier → is_identifier_text x ≡ true
 letters x is = identifier_by _ _ _ _ _ _ _ (sym (kind_tests x) ∙ is)
 
-both : (x y : Bool) → (x && y) ≡ true → (x ≡ true) × (y ≡ true)
-both true y is = (refl, is)
-both false y is = cc
-
 all_words : (xs : List ℕ) (c : ℕ) (r : List ℕ) → list_all is_word xs ≡ true → is_word c ≡ false → prefix_len is_word (xs ++ c ∷ r) ≡ length xs
 all_words [] c r words other = ap (λ b. cond b (1 + prefix_len is_word r) 0) other
 all_words (x ∷ xs) c r words other =
-    let parts = both (is_word x) _ words in
+    let parts = and_parts (is_word x) _ words in
     ap (λ b. cond b (1 + prefix_len is_word (xs ++ c ∷ r)) 0) parts.0 ∙ ltb_suc (prefix_len is_word (xs ++ c ∷ r)) ∙ ap suc (all_words xs c r parts.1 other)
 
 drop_all : (xs ys : List ℕ) → drop (length xs) (xs ++ ys) ≡ ys
@@ -67,13 +64,13 @@ word_alone b x c r letter words other quote =
 pub name_ahead : (x : List ℕ) (c : ℕ) (r : List ℕ) → kind_of x ≡ Some Identifier → is_word c ≡ false → is_quote c ≡ false → Ahead x (c ∷ r)
 name_ahead [] c r kind other quote = cc
 name_ahead (b ∷ x) c r kind other quote =
-    let parts = both (is_letter b) _ (letters (b ∷ x) kind) in
+    let parts = and_parts (is_letter b) _ (letters (b ∷ x) kind) in
     ahead_of (b ∷ x) (c ∷ r) Identifier (word_alone b x c r parts.0 parts.1 other quote)
     (ap (λ t. t && begins (codes "/") (x ++ c ∷ r)) (differs_from is_letter b 47 parts.0 refl)) (ap (λ t. t && begins (codes "*") (x ++ c ∷ r)) (differs_from is_letter b 47 parts.0 refl))
 
 pub no_name_is : (x : List ℕ) (c : ℕ) → kind_of x ≡ Some Identifier → is_letter c ≡ false → (ys : List ℕ) → pointwise eqb x (c ∷ ys) ≡ false
 no_name_is [] c kind other ys = refl
-no_name_is (b ∷ x) c kind other ys = ap (λ t. t && pointwise eqb x ys) (differs is_letter b c (both (is_letter b) _ (letters (b ∷ x) kind)).0 other)
+no_name_is (b ∷ x) c kind other ys = ap (λ t. t && pointwise eqb x ys) (differs is_letter b c (and_parts (is_letter b) _ (letters (b ∷ x) kind)).0 other)
 
 -- no byte 0
 
@@ -91,13 +88,13 @@ nul_append (x ∷ xs) ys first second = nul_step (eqb x 0) (first_nul (on_line_o
 words_nul : (xs : List ℕ) → list_all is_word xs ≡ true → NoNul xs
 words_nul [] words = refl
 words_nul (x ∷ xs) words =
-    let parts = both (is_word x) _ words in
+    let parts = and_parts (is_word x) _ words in
     ap (λ t. cond {A = Option ℕ} t (Some 1) (first_nul (on_line_one xs))) (differs is_word x 0 parts.0 refl) ∙ words_nul xs parts.1
 
 pub name_nul : (x : List ℕ) → kind_of x ≡ Some Identifier → NoNul x
 name_nul [] kind = refl
 name_nul (b ∷ x) kind =
-    let parts = both (is_letter b) _ (letters (b ∷ x) kind) in
+    let parts = and_parts (is_letter b) _ (letters (b ∷ x) kind) in
     words_nul (b ∷ x) (ap (λ t. (t || is_digit b) && list_all is_word x) parts.0 ∙ parts.1)
 
 -- a token of its kind, without a byte 0
@@ -105,7 +102,7 @@ pub record IsWhole (t : Token) : Type 0 where
   pub kind : kind_of t.text ≡ Some t.kind
   pub no_nul : NoNul t.text
 
--- a token that begins no longer one, whatever stands behind it
+-- a token that begins no longer one, whatever follows it
 open_ahead : (r : List ℕ) → Ahead (codes "(") r
 open_ahead r = record { longer = λ w z is some. by w some; line = refl; block = refl }
   where
@@ -182,7 +179,7 @@ again_dots before = record {
   read = λ a done r ts name rest. dots_read a done r (mark (codes ")") ∷ ts) name (λ late. close_read a late r ts name rest);
 }
 
--- a parameter that may stand there
+-- a parameter that may be there
 pub record IsParam (before : List (List ℕ)) (x : List ℕ) : Type 0 where
   pub kind : kind_of x ≡ Some Identifier
   pub no_dots : is_spelled (codes "...") (name_token x) ≡ false

@@ -20,7 +20,7 @@ use Rattle.mac_base.specs.Answers.{Answers}
 use Rattle.macro_table.specs.Definitions.{ParamList, last_passes, DefValue, is_spelled, has_list, unless, closed, param_fault, params_from, param_list, function_like, object_like, checked, def_behind}
 use Rattle.macro_table.specs.Params.{AreKnown}
 
--- the last token is the one that was put behind the others
+-- the last token is the one that was added after the others
 pub last_push : (test : Token → Bool) (ts : List Token) (t : Token) → last_passes test (ts ++ t ∷ []) ≡ test t
 last_push test [] t = refl
 last_push test (u ∷ []) t = refl

@@ -2,6 +2,7 @@
 use Rattle.std.proofs.Common.{◌≡◌, ◌≢◌, ℕ, Bool, true, false, cond, not, ◌&&◌, ◌||◌, List, [], ◌∷◌, ◌++◌, length, drop, Option, Some, None, Result, Ok, Err, refl, sym, ◌∙◌, ap, subst, append_assoc, append-nil}
 use Rattle.std.specs.Option.{option_or}
 use Rattle.std.specs.List.{AllByRecursion, list_any, flat_map, join_with_byte}
+use Rattle.std.proofs.lemmas.Bool.{or_parts}
 use lib.Chars.{codes}
 use Rattle.mac_base.specs.Input.{◌>>=◌}
 use Rattle.mac_base.proofs.Choices.{same_ok}
@@ -42,10 +43,6 @@ no_quote : (b : Bool) (rest : Option DefFault) → option_or (where_true b Quote
 no_quote true rest is = cc
 no_quote false rest is = refl
 
-neither : (a b : Bool) → (a || b) ≡ false → (a ≡ false) × (b ≡ false)
-neither true b is = cc
-neither false b is = (refl, is)
-
 not_lone : (t : Token) → is_lone_quote t ≡ false → t.kind ≢ LoneQuote
 not_lone t is lone = by (is_quote_kind t.kind) (ap is_quote_kind lone) is
   where
@@ -55,10 +52,10 @@ not_lone t is lone = by (is_quote_kind t.kind) (ap is_quote_kind lone) is
 printable : (body : List Token) → AllByRecursion IsWhole body → list_any is_lone_quote body ≡ false → AllByRecursion IsPrintable body
 printable [] all none = tt
 printable (t ∷ ts) all none =
-    let parts = neither (is_lone_quote t) _ none in
+    let parts = or_parts (is_lone_quote t) _ none in
     (record { kind = all.0.kind; no_lone = not_lone t parts.0; no_nul = all.0.no_nul }, printable ts all.1 parts.1)
 
--- a definition that may stand, and stands behind white space too
+-- a definition that may be there, and is after white space too
 record Stands (made def : DefValue) : Type 0 where
   again : checked (behind_space made) ≡ Ok (behind_space def)
   is : made ≡ def
@@ -103,7 +100,7 @@ body_nul : (body : List Token) → AllByRecursion IsPrintable body → NoNul (bo
 body_nul [] all = refl
 body_nul (t ∷ ts) all = nul_append t.text (flat_map spaced ts) all.0.no_nul (rest_nul ts all.1)
 
--- a macro whose text gives these tokens behind the name
+-- a macro whose text gives these tokens after the name
 record ReadBack (x : List ℕ) (def : DefValue) : Type 0 where
   tail : List ℕ
   text : text_of def ≡ x ++ tail

@@ -1,4 +1,4 @@
--- Tokens that are printed one behind another are read again, behind a name.
+-- Tokens that are printed one after another are read again, after a name.
 use Rattle.std.proofs.Common.{◌≡◌, ℕ, zero, suc, ◌≤◌, Bool, true, false, cond, List, [], ◌∷◌, ◌++◌, length, take, drop, Some, Ok, refl, sym, ◌∙◌, ap, arith, append_assoc, append-nil, length-append}
 use Rattle.std.proofs.lemmas.List.{take_at, drop_at, length-map}
 use Rattle.std.specs.List.{AllByRecursion, flat_map}
@@ -41,11 +41,11 @@ one_piece n page what b front r header stands =
     ∙ ap (λ (cs : List Char). page_of n (put page what cs) (drop (length (b ∷ front)) chars)) (front_line (b ∷ front) r)
     ∙ ap (page_of n (put page what (on_line_one (b ∷ front)))) (back_line (b ∷ front) r)
 
--- a page behind a name
+-- a page after a name
 abbrev pub page_at : Token → List Token → Bool → ℕ → LinesSoFar
 page_at a done s number = record { lines = []; number = number; tokens = a ∷ done; space = s }
 
--- behind these tokens the text gives those
+-- after these tokens the text gives those
 abbrev pub Reads : Token → List Token → Bool → List ℕ → List Token → Type 0
 Reads a done s text ts = (number n : ℕ) → length text ≤ n → page_tokens (page_of n (page_at a done s number) (on_line_one text)) ≡ Ok (a ∷ done ++ ts)
 
@@ -82,7 +82,7 @@ token_by a done s k (b ∷ x) t r ts name kind ahead is rest number (suc n) enou
 pub token_read : (a : Token) (done : List Token) (s : Bool) (t : Token) (r : List ℕ) (ts : List Token) → IsName a → kind_of t.text ≡ Some t.kind → Ahead t.text r → t.space ≡ s → Reads a (done ++ t ∷ []) false r ts → Reads a done s (t.text ++ r) (t ∷ ts)
 token_read a done s t r ts name kind ahead is rest = token_by a done s t.kind t.text t r ts name kind ahead (ap (λ b. record { kind = t.kind; text = t.text; space = b }) is) rest
 
--- a replacement list behind its first token
+-- a replacement list after its first token
 mark_read : (a : Token) (done : List Token) (t : Token) (r : List ℕ) (ts : List Token) (b : Bool) → IsName a → t.space ≡ b → ((s : Bool) → t.space ≡ s → Reads a done s (t.text ++ r) (t ∷ ts)) → Reads a done false (((cond b (codes " ") []) ++ t.text) ++ r) (t ∷ ts)
 mark_read a done t r ts true name is reads = blank_read a done false (t.text ++ r) (t ∷ ts) name (reads true is)
 mark_read a done t r ts false name is reads = reads false is
@@ -93,7 +93,7 @@ rest_read a done (t ∷ ts) name all aheads =
     mark_read a done t (flat_map spaced ts) ts t.space name refl (λ s is.
     token_read a done s t (flat_map spaced ts) ts name all.0.kind (printed_ahead t ts all aheads) is (rest_read a (done ++ t ∷ []) ts name all.1 aheads.1))
 
--- a replacement list behind white space
+-- a replacement list after white space
 pub body_read : (a : Token) (done body : List Token) → IsName a → AllByRecursion IsPrintable body → AllAhead body → Reads a done true (body_text body) (first_spaced body)
 body_read a done [] name all aheads = end_read a done true
 body_read a done (t ∷ ts) name all aheads =

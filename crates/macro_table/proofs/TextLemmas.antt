@@ -24,7 +24,7 @@ use Rattle.macro_table.specs.Faults.{lex_fault, def_fault}
 use Rattle.macro_table.specs.Definitions.{DefValue, def_of}
 use Rattle.macro_table.specs.Texts.{page_behind, page_of, page_tokens, tokens_unless, tokens_of, as_text, def_of_tokens, def_of_text}
 
--- so many pieces may be left behind some pieces of a text
+-- so many pieces may be left after some pieces of a text
 record Left (n : ℕ) (page : LinesSoFar) (chars : List Char) (final : LinesSoFar) (rest : List Char) : Type 0 where
   count : ℕ
   enough : length rest ≤ count
@@ -56,7 +56,7 @@ at_end : (n : ℕ) (page : LinesSoFar) → page_of n page [] ≡ Ok page
 at_end zero page = refl
 at_end (suc n) page = refl
 
--- no piece stands where a comment is not closed
+-- no piece is where a comment is not closed
 at_open : (n : ℕ) (page : LinesSoFar) (rest : List Char) → IsOpen (bytes_of rest) → length rest ≤ n → page_of n page rest ≡ Err (OpenComment (line_of rest))
 at_open n page [] open_here enough = absurd (no_open open_here.0)
   where

@@ -11,31 +11,31 @@ use thiserror::Error;
 #[derive(Clone, Copy, Debug, PartialEq, Eq, Error)]
 pub enum DefFault {
     /// The first token is no identifier, or there is none.
-    #[error("no name")]
+    #[error("NoName")]
     NoName,
     /// The name is `defined` (6.10.8 p2) or `__VA_ARGS__` (6.10.3 p5).
-    #[error("a reserved name")]
+    #[error("Reserved")]
     Reserved,
     /// What is in the parameter list is no parameter list, or it is not closed.
-    #[error("not a parameter list")]
+    #[error("ParamSyntax")]
     ParamSyntax,
     /// Two parameters have one name (6.10.3 p6).
-    #[error("a repeated parameter")]
+    #[error("RepeatedParam")]
     RepeatedParam,
     /// `__VA_ARGS__` is a parameter, or is in the replacement list of a macro without `...` (6.10.3 p5).
-    #[error("a misplaced __VA_ARGS__")]
+    #[error("VaArgs")]
     VaArgs,
     /// A quote that nothing closes is in the replacement list (this project's rule: 6.4 p3 leaves it undefined).
-    #[error("a lone quote")]
+    #[error("LoneQuote")]
     LoneQuote,
     /// `##` is first or last in the replacement list (6.10.3.3 p1).
-    #[error("## at an edge")]
+    #[error("EdgePaste")]
     EdgePaste,
     /// In a function-like macro no parameter follows a `#` (6.10.3.2 p1).
-    #[error("# without a parameter")]
+    #[error("LoneHash")]
     LoneHash,
     /// Memory ran out.
-    #[error("out of memory")]
+    #[error("NoMemory")]
     NoMemory,
 }
 
@@ -59,13 +59,13 @@ impl<T: Drop> From<AllocFailed<T>> for DefFault {
 #[derive(Clone, Copy, Debug, PartialEq, Eq, Error)]
 pub enum TextFault {
     /// The text has no tokens.
-    #[error("{0}")]
+    #[error("Lex {0}")]
     Lex(LexFault),
     /// Its tokens define no macro.
-    #[error("{0}")]
+    #[error("Def {0}")]
     Def(DefFault),
     /// Memory ran out.
-    #[error("out of memory")]
+    #[error("NoMemory")]
     NoMemory,
 }
 

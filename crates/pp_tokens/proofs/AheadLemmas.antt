@@ -1,8 +1,9 @@
--- A printed token is the longest in front of what is printed behind it.
+-- A printed token is the longest in front of what is printed after it.
 use Rattle.std.proofs.Common.{◌≡◌, ◌≢◌, ℕ, zero, suc, ◌+◌, ◌-◌, ◌≤◌, eqb, Bool, true, false, ◌&&◌, ◌||◌, cond, List, [], ◌∷◌, ◌++◌, length, take, drop, Option, Some, None, refl, sym, ◌∙◌, ap, arith, append_assoc, append-nil, length-append}
 use Rattle.std.proofs.lemmas.List.{take_at}
 use Rattle.std.proofs.Math.Seq.{take-append-add}
 use Rattle.std.proofs.lemmas.List.{take-append-drop}
+use Rattle.std.proofs.lemmas.Bool.{false_from_ne_true}
 use Rattle.std.specs.Option.{option_map}
 use borrow.Author.Tests.{eqb-true}
 use lib.Chars.{codes}
@@ -14,13 +15,14 @@ use Rattle.pp_tokens.specs.declared.token.Token.{Token}
 use Rattle.pp_tokens.specs.Kinds.{begins, is_blank, kind_of}
 use Rattle.pp_tokens.specs.Cut.{longest, piece_at, line_rest, up_to_close}
 use Rattle.pp_tokens.specs.Printing.{GivesBoth}
-use Rattle.pp_tokens.proofs.KindLemmas.{to_false}
 use Rattle.pp_tokens.proofs.LongestLemmas.{longest_is}
 use Rattle.pp_tokens.proofs.FrontOfLemmas.{Cut, within, beyond, cut_of}
 use Rattle.pp_tokens.proofs.NextLemmas.{blank-behind, over-neighbour}
 use Rattle.pp_tokens.proofs.BothLemmas.{both-front, word_front, longest-none}
+use Rattle.mac_base.proofs.TestLemmas.{and_false}
+use Rattle.mac_base.proofs.Choices.{no_both, stable_none}
 
--- behind the token no longer one begins, and it begins no comment
+-- after the token no longer one begins, and it begins no comment
 pub record Ahead (t r : List ℕ) : Type 0 where
   pub longer : (w z : List ℕ) → r ≡ w ++ z → w ≢ [] → kind_of (t ++ w) ≡ None
   pub line : begins (codes "//") (t ++ r) ≡ false
@@ -33,15 +35,11 @@ comment_by c b d xs true true first second is none =
 comment_by c b d xs true false first second is none = cc
 comment_by c b d xs false y first second is none = cc
 
-one_byte : (x : Bool) → (x && false) ≡ false
-one_byte true = refl
-one_byte false = refl
-
 no_comment : (k : Kind) (c : ℕ) (t : List ℕ) → ((xs : List ℕ) → kind_of (47 ∷ c ∷ xs) ≡ None) → kind_of t ≡ Some k → begins (47 ∷ c ∷ []) t ≡ false
 no_comment k c [] all is = refl
-no_comment k c (b ∷ []) all is = one_byte (eqb 47 b)
+no_comment k c (b ∷ []) all is = and_false (eqb 47 b)
 no_comment k c (b ∷ d ∷ t) all is =
-    to_false _ (λ starts. let none : kind_of (b ∷ d ∷ t) ≡ None = comment_by c b d t (eqb 47 b) (eqb c d) refl refl starts (all t) in both_kinds (kind_of (b ∷ d ∷ t)) none is)
+    false_from_ne_true _ (λ starts. let none : kind_of (b ∷ d ∷ t) ≡ None = comment_by c b d t (eqb 47 b) (eqb c d) refl refl starts (all t) in both_kinds (kind_of (b ∷ d ∷ t)) none is)
   where
     both_kinds : (o : Option Kind) → o ≡ None → o ≡ Some k → ⊥
     both_kinds o none some = cc
@@ -57,7 +55,7 @@ ahead-end k t is = record {
   block = ap (begins (codes "/*")) (append-nil t) ∙ no_comment k 42 t (λ xs. refl) is;
 }
 
--- white space behind
+-- white space after it
 
 blank_front : (w z more : List ℕ) → 32 ∷ more ≡ w ++ z → w ≢ [] → (v : List ℕ) × (w ≡ 32 ∷ v)
 blank_front [] z more is some = absurd (some refl)
@@ -68,7 +66,7 @@ comment_behind k c d [] r all other is none = absurd (both_kinds (kind_of []) no
   where
     both_kinds : (o : Option Kind) → o ≡ None → o ≡ Some k → ⊥
     both_kinds o none some = cc
-comment_behind k c d (b ∷ []) r all other is none = ap (λ x. eqb 47 b && (x && true)) other ∙ one_byte (eqb 47 b)
+comment_behind k c d (b ∷ []) r all other is none = ap (λ x. eqb 47 b && (x && true)) other ∙ and_false (eqb 47 b)
 comment_behind k c d (b ∷ e ∷ t) r all other is none = no_comment k c (b ∷ e ∷ t) all is
 
 pub ahead-blank : (k : Kind) (t more : List ℕ) → kind_of t ≡ Some k → k ≢ LoneQuote → Ahead t (32 ∷ more)
@@ -78,7 +76,7 @@ ahead-blank k t more is not_lone = record {
   block = comment_behind k 42 32 t more (λ xs. refl) refl is refl;
 }
 
--- a neighbour behind
+-- a neighbour after it
 
 begins_two : (a b : ℕ) (s r : List ℕ) → 2 ≤ length s → begins (a ∷ b ∷ []) (s ++ r) ≡ begins (a ∷ b ∷ []) s
 begins_two a b [] r long = absurd (omega arith)
@@ -129,10 +127,6 @@ ahead_both t u r first one second two no_dots ahead gives =
       block = ap (begins (codes "/*")) (sym (append_assoc t.text u.text r)) ∙ begins_two 47 42 (t.text ++ u.text) r long ∙ word.1;
     }
 
-stable_none : (o : Option Kind) → ((o ≡ None → ⊥) → ⊥) → o ≡ None
-stable_none None never = refl
-stable_none (Some k) never = absurd (never (λ is. cc))
-
 stable_false : (b : Bool) → ((b ≡ false → ⊥) → ⊥) → b ≡ false
 stable_false true never = absurd (never (λ is. cc))
 stable_false false never = refl
@@ -146,7 +140,7 @@ ahead-next t u r first one second two no_dots ahead gives =
       block = stable_false _ (λ never. gives (λ both. never (so both).block));
     }
 
--- the token stands in front
+-- the token is in front
 
 first_blank : (b : ℕ) (xs : List ℕ) (v w x y z : Bool) → eqb b 32 ≡ v → eqb b 9 ≡ w → eqb b 11 ≡ x → eqb b 12 ≡ y → eqb b 13 ≡ z → ((((v || w) || x) || y) || z) ≡ true → kind_of (b ∷ xs) ≡ None
 first_blank b xs true w x y z one two three four five is = blank_at 32 b xs (eqb-true b 32 one) (λ ys. by ys)
@@ -186,9 +180,6 @@ first_feed b xs is = ap (λ c. kind_of (c ∷ xs)) (eqb-true b 10 is) ∙ by xs
     by [] = refl
     by (c ∷ ys) = refl
 
-no_both : (o : Option Kind) (k : Kind) → o ≡ None → o ≡ Some k → ⊥
-no_both o k none some = cc
-
 piece_by : (t u v w : Bool) (m : ℕ) (o : Option ℕ) (found k : Option (Kind × ℕ)) → t ≡ false → u ≡ false → v ≡ false → w ≡ false → found ≡ k →
     cond t (Some (Blank, 1)) (cond u (Some (Blank, 1)) (cond v (Some (Comment, m)) (cond w (option_map {U = PieceKind × ℕ} (λ n. (Comment, 2 + n)) o) (option_map {U = PieceKind × ℕ} (λ (f : Kind × ℕ). (Word f.0, f.1)) found)))) ≡ option_map {U = PieceKind × ℕ} (λ (f : Kind × ℕ). (Word f.0, f.1)) k
 piece_by true u v w m o found k et eu ev ew is = cc
@@ -215,6 +206,6 @@ pub token-stands : (k : Kind) (t r : List ℕ) → kind_of t ≡ Some k → Ahea
 token-stands k [] r is ahead = absurd (no_both (kind_of []) k refl is)
 token-stands k (b ∷ t) r is ahead =
     piece_by (eqb b 10) (is_blank b) (begins (codes "//") (b ∷ (t ++ r))) (begins (codes "/*") (b ∷ (t ++ r))) (suc (line_rest (t ++ r))) (up_to_close (drop 1 (t ++ r))) (longest (b ∷ (t ++ r))) (Some (k, suc (length t)))
-    (to_false _ (λ feed. no_both (kind_of (b ∷ t)) k (first_feed b t feed) is))
-    (to_false _ (λ blank. no_both (kind_of (b ∷ t)) k (first_blank b t (eqb b 32) (eqb b 9) (eqb b 11) (eqb b 12) (eqb b 13) refl refl refl refl refl blank) is))
+    (false_from_ne_true _ (λ feed. no_both (kind_of (b ∷ t)) k (first_feed b t feed) is))
+    (false_from_ne_true _ (λ blank. no_both (kind_of (b ∷ t)) k (first_blank b t (eqb b 32) (eqb b 9) (eqb b 11) (eqb b 12) (eqb b 13) refl refl refl refl refl blank) is))
     ahead.line ahead.block (longest_there k (b ∷ t) r is ahead)

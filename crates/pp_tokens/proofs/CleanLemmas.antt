@@ -1,6 +1,7 @@
--- What the cursor passes over leaves the cleaned text as it is, and what stands in front is its head.
+-- What the cursor passes over leaves the cleaned text as it is, and what is in front is its head.
 use Rattle.std.proofs.Common.{◌≡◌, ◌≢◌, ℕ, suc, ◌+◌, ◌≤◌, ◌<◌, eqb, ltb, Bool, true, false, ◌&&◌, cond, List, [], ◌∷◌, length, drop, Option, Some, None, refl, sym, ◌∙◌, ap, subst, arith}
 use Rattle.std.proofs.lemmas.List.{drop-drop, length-map}
+use Rattle.std.proofs.lemmas.Bool.{and_parts, false_from_ne_true}
 use Rattle.std.specs.Option.{unwrap_or}
 use borrow.Author.Tests.{eqb-true, ltb-true}
 use Rattle.pp_tokens.specs.Cleaning.{Char, bytes_of, numbered, without_cr, trigraph_of, replaced, without_trigraphs, spliced, cleaned_from, on_line_one}
@@ -8,18 +9,15 @@ use Rattle.pp_tokens.specs.Kinds.{first_is}
 use Rattle.pp_tokens.specs.Raw.{decoded, feed, splice_by, splice, IsSettled, IsPlace, front_of, line_behind, left_of, IsPlain}
 use Rattle.pp_tokens.specs.Cut.{line_of}
 use Rattle.pp_tokens.specs.Scan.{first_byte}
-use Rattle.pp_tokens.proofs.KindLemmas.{clash, to_false}
+use Rattle.pp_tokens.proofs.KindLemmas.{clash}
 use Rattle.pp_tokens.proofs.RawLemmas.{next_line, unspliced, unspliced-step, decoded_plain, feed_head, feed_line}
-
-and_false : (x : Bool) → (x && false) ≡ false
-and_false true = refl
-and_false false = refl
+use Rattle.mac_base.proofs.TestLemmas.{and_false}
 
 spliced_cons : (c : Char) (cs : List Char) → spliced (c ∷ cs) ≡ cond (eqb c.byte 92 && first_is (λ b. eqb b 10) (bytes_of cs)) (spliced (drop 1 cs)) (c ∷ spliced cs)
 spliced_cons c [] = ap (λ t. cond t [] (c ∷ [])) (sym (and_false (eqb c.byte 92)))
 spliced_cons c (d ∷ cs) = refl
 
--- the unit in front is cleaned by what stands behind it
+-- the unit in front is cleaned by what follows it
 cleaned_by : (line : ℕ) (bytes : List ℕ) (unit : ℕ × ℕ) (t : Bool) → decoded bytes ≡ Some unit → feed bytes ≢ 2 → (eqb unit.0 92 && ltb 0 (feed (drop unit.1 bytes))) ≡ t →
     cleaned_from line bytes ≡ cond t (spliced (drop 1 (unspliced (next_line line unit.0) (drop unit.1 bytes)))) (record { byte = unit.0; line = line } ∷ cleaned_from (next_line line unit.0) (drop unit.1 bytes))
 cleaned_by line bytes unit t is kept test =
@@ -27,10 +25,6 @@ cleaned_by line bytes unit t is kept test =
     ap spliced (unspliced-step line bytes unit is kept)
     ∙ spliced_cons (record { byte = unit.0; line = line }) behind
     ∙ ap (λ x. cond x (spliced (drop 1 behind)) (record { byte = unit.0; line = line } ∷ spliced behind)) (ap (λ x. eqb unit.0 92 && x) (feed_head (next_line line unit.0) (drop unit.1 bytes)) ∙ test)
-
-both_true : (x y : Bool) → (x && y) ≡ true → (x ≡ true) × (y ≡ true)
-both_true true y is = (refl, is)
-both_true false y is = cc
 
 -- a carriage return and a line feed
 return_by : (a b : ℕ) (bs : List ℕ) (x y z : Bool) → eqb a 10 ≡ x → eqb a 13 ≡ y → eqb b 10 ≡ z → ◌≡◌ {A = ℕ} (cond x 1 (cond (y && z) 2 0)) 2 → (13 ≡ a) × (10 ≡ b)
@@ -59,7 +53,7 @@ return_alone (a ∷ b ∷ bs) unit is mark two =
 pub splice-gone : (line : ℕ) (bytes : List ℕ) (unit : ℕ × ℕ) → decoded bytes ≡ Some unit → (eqb unit.0 92 && ltb 0 (feed (drop unit.1 bytes))) ≡ true →
     cleaned_from line bytes ≡ cleaned_from (line + 1) (drop (unit.1 + feed (drop unit.1 bytes)) bytes)
 splice-gone line bytes unit is test =
-    let parts = both_true (eqb unit.0 92) _ test in
+    let parts = and_parts (eqb unit.0 92) _ test in
     let same_line : next_line line unit.0 ≡ line = ap (λ b. next_line line b) (eqb-true unit.0 92 parts.0) in
     cleaned_by line bytes unit true is (return_alone bytes unit is parts.0) test
     ∙ ap (λ n. spliced (drop 1 (unspliced n (drop unit.1 bytes)))) same_line
@@ -186,7 +180,7 @@ pub place-behind : (cleans : Bool) (line : ℕ) (bytes : List ℕ) (byte width :
 place-behind cleans line bytes byte width place is = ap (drop 1) (sym (place-some cleans line bytes (byte, width) place is))
 
 pub apart : (a b : ℕ) → a ≢ b → eqb a b ≡ false
-apart a b other = to_false (eqb a b) (λ is. other (eqb-true a b is))
+apart a b other = false_from_ne_true (eqb a b) (λ is. other (eqb-true a b is))
 
 plain_front : (cleans : Bool) (a : ℕ) (bs : List ℕ) → a ≢ 63 → front_of cleans (a ∷ bs) ≡ Some (a, 1)
 plain_front true a bs other = decoded_plain a bs (apart a 63 other)

@@ -1,4 +1,4 @@
--- The token of a word by the byte behind it.
+-- The token of a word by the byte after it.
 use Rattle.std.proofs.Common.{◌≡◌, ℕ, suc, Bool, true, false, cond, List, [], ◌∷◌, drop, Option, Some, None, refl, sym, ◌∙◌, ap}
 use Rattle.std.proofs.lemmas.List.{drop-map}
 use Rattle.pp_tokens.specs.declared.token.Kind.{Kind}

@@ -2,12 +2,13 @@
 use Rattle.std.proofs.Common.{◌≡◌, ◌≢◌, ℕ, eqb, Bool, true, false, not, ◌&&◌, ◌||◌, List, [], ◌∷◌, ◌++◌, Some, refl, sym, ◌∙◌, ap, subst}
 use Rattle.std.specs.List.{list_all}
 use Rattle.std.specs.Option.{unwrap_or}
+use Rattle.std.proofs.lemmas.Bool.{and_parts}
 use borrow.Author.Tests.{eqb-true}
 use Rattle.pp_tokens.specs.declared.token.Kind.{Kind}
 use Rattle.pp_tokens.specs.declared.token.Kind.TheVariants.{LoneQuote}
 use Rattle.pp_tokens.specs.Kinds.{is_digit, is_letter, is_word, is_quote, is_blank, is_identifier, goes_on, begins_number, is_number, is_closed, is_char, is_str, is_punct, is_one, kind_of}
 use Rattle.pp_tokens.proofs.KindLemmas.{kind_by, kind_tests, clash}
-use Rattle.pp_tokens.proofs.CloseLemmas.{both, all_back, no_number_with, no_punct_with}
+use Rattle.pp_tokens.proofs.CloseLemmas.{all_back, no_number_with, no_punct_with}
 use Rattle.pp_tokens.proofs.LiteralLemmas.{Literal, literal_of_char, literal_of_str, closed_end}
 
 -- which test a token passes
@@ -50,24 +51,24 @@ quote_no_word q is = of_quote (λ x. is_word x ≡ false) q is refl refl
 -- the first quote of two equal texts
 first_quote : (p r : List ℕ) (q s : ℕ) (xs ys : List ℕ) → list_all is_word p ≡ true → list_all is_word r ≡ true → is_word q ≡ false → is_word s ≡ false → p ++ q ∷ xs ≡ r ++ s ∷ ys → (p ≡ r) × (q ≡ s) × (xs ≡ ys)
 first_quote [] [] q s xs ys one two three four is = (refl, cc, cc)
-first_quote [] (b ∷ r) q s xs ys one two three four is = let same_byte : q ≡ b = cc in absurd (clash (is_word b) (both (is_word b) _ two).0 (ap is_word (sym same_byte) ∙ three))
-first_quote (a ∷ p) [] q s xs ys one two three four is = let same_byte : a ≡ s = cc in absurd (clash (is_word a) (both (is_word a) _ one).0 (ap is_word same_byte ∙ four))
+first_quote [] (b ∷ r) q s xs ys one two three four is = let same_byte : q ≡ b = cc in absurd (clash (is_word b) (and_parts (is_word b) _ two).0 (ap is_word (sym same_byte) ∙ three))
+first_quote (a ∷ p) [] q s xs ys one two three four is = let same_byte : a ≡ s = cc in absurd (clash (is_word a) (and_parts (is_word a) _ one).0 (ap is_word same_byte ∙ four))
 first_quote (a ∷ p) (b ∷ r) q s xs ys one two three four is =
     let head : a ≡ b = cc in
     let tail : p ++ q ∷ xs ≡ r ++ s ∷ ys = cc in
-    let inner = first_quote p r q s xs ys (both (is_word a) _ one).1 (both (is_word b) _ two).1 three four tail in
+    let inner = first_quote p r q s xs ys (and_parts (is_word a) _ one).1 (and_parts (is_word b) _ two).1 three four tail in
     ((λ i. head i ∷ inner.0 i), inner.1, inner.2)
 
--- a token with a quote in it behind letters and digits is closed there
+-- a token with a quote in it after letters and digits is closed there
 identifier_words : (t : List ℕ) → is_identifier t ≡ true → list_all is_word t ≡ true
 identifier_words [] is = cc
-identifier_words (b ∷ bs) is = let parts = both (is_letter b) _ is in ap (λ x. (x || is_digit b) && list_all is_word bs) parts.0 ∙ parts.1
+identifier_words (b ∷ bs) is = let parts = and_parts (is_letter b) _ is in ap (λ x. (x || is_digit b) && list_all is_word bs) parts.0 ∙ parts.1
 
 quoted_identifier : (p : List ℕ) (q : ℕ) (body : List ℕ) → is_word q ≡ false → is_identifier (p ++ q ∷ body) ≡ true → ⊥
-quoted_identifier p q body apart is = clash (is_word q) (both (is_word q) _ (all_back is_word p (q ∷ body) (identifier_words (p ++ q ∷ body) is))).0 apart
+quoted_identifier p q body apart is = clash (is_word q) (and_parts (is_word q) _ (all_back is_word p (q ∷ body) (identifier_words (p ++ q ∷ body) is))).0 apart
 
 quoted_number : (p : List ℕ) (q : ℕ) (body : List ℕ) → is_quote q ≡ true → is_number (p ++ q ∷ body) ≡ true → ⊥
-quoted_number [] q body sort is = clash _ (both (begins_number q body) _ is).0 (of_quote (λ x. begins_number x body ≡ false) q sort refl refl)
+quoted_number [] q body sort is = clash _ (and_parts (begins_number q body) _ is).0 (of_quote (λ x. begins_number x body ≡ false) q sort refl refl)
 quoted_number (x ∷ xs) q body sort is =
     clash _ is (no_number_with x xs q body (λ before. of_quote (λ z. goes_on before z ≡ false) q sort refl refl))
 
@@ -105,7 +106,7 @@ cut_of (a ∷ t) v (b ∷ p) rest is =
     let tail : t ++ v ≡ p ++ rest = cc in
     subst (λ x. Cut (a ∷ t) v (x ∷ p) rest) head (cut_more a t v p rest (cut_of t v p rest tail))
 
--- a token that a literal goes on from is a front of its prefix
+-- a token that a literal goes on from is a prefix of its prefix
 beyond_prefix : (k : Kind) (t v : List ℕ) (c : ℕ) (more : List ℕ) (l : Literal (t ++ v)) (z : List ℕ) → Sort k t → k ≢ LoneQuote → v ≡ c ∷ more → t ≡ l.prefix ++ z → l.quote ∷ l.body ≡ z ++ v → (y : List ℕ) × (l.prefix ≡ t ++ y)
 beyond_prefix k t v c more l [] sort not_lone some front rest = ([], sym (front ∙ append_nil l.prefix) ∙ sym (append_nil t))
   where

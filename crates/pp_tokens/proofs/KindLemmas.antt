@@ -4,6 +4,7 @@ use Rattle.std.specs.List.{list_any, list_all}
 use Rattle.std.specs.Option.{option_map}
 use borrow.Author.Tests.{eqb-true}
 use Rattle.std.proofs.lemmas.Bool.Decides.{nat_tests}
+use Rattle.std.proofs.lemmas.Bool.{false_from_ne_true}
 use Rattle.pp_tokens.specs.declared.token.Kind.{Kind}
 use Rattle.pp_tokens.specs.declared.token.Kind.TheVariants.{Identifier, Number, Char as Constant, Str, Punct, LoneQuote, Other}
 use Rattle.pp_tokens.specs.Kinds.{same, is_digit, is_letter, is_quote, is_blank, is_identifier, first_is, is_number, is_char, is_str, punctuators, is_punct, is_one, kind_of}
@@ -32,22 +33,18 @@ pub clash : (x : Bool) → x ≡ true → x ≡ false → ⊥
 clash true holds fails = cc
 clash false holds fails = cc
 
-pub to_false : (x : Bool) → (x ≡ true → ⊥) → x ≡ false
-to_false true never = absurd (never refl)
-to_false false never = refl
-
 -- a byte that passes a test is none that fails it
 pub differs : (test : ℕ → Bool) (b n : ℕ) → test b ≡ true → test n ≡ false → eqb b n ≡ false
-differs test b n passes fails = to_false (eqb b n) (λ same. clash (test b) passes (ap test (eqb-true b n same) ∙ fails))
+differs test b n passes fails = false_from_ne_true (eqb b n) (λ same. clash (test b) passes (ap test (eqb-true b n same) ∙ fails))
 
 pub differs_from : (test : ℕ → Bool) (b n : ℕ) → test b ≡ true → test n ≡ false → eqb n b ≡ false
-differs_from test b n passes fails = to_false (eqb n b) (λ same. clash (test b) passes (ap test (sym (eqb-true n b same)) ∙ fails))
+differs_from test b n passes fails = false_from_ne_true (eqb n b) (λ same. clash (test b) passes (ap test (sym (eqb-true n b same)) ∙ fails))
 
 pub digit_no_letter : (b : ℕ) → is_digit b ≡ true → is_letter b ≡ false
 digit_no_letter b digit = grind (arith, nat_tests)
 
 pub letter_no_digit : (b : ℕ) → is_letter b ≡ true → is_digit b ≡ false
-letter_no_digit b letter = to_false (is_digit b) (λ digit. clash (is_letter b) letter (digit_no_letter b digit))
+letter_no_digit b letter = false_from_ne_true (is_digit b) (λ digit. clash (is_letter b) letter (digit_no_letter b digit))
 
 -- a byte with which no punctuator begins
 no_punct_step : (test : ℕ → Bool) (b c : ℕ) (rest p : List ℕ) (ps : List (List ℕ)) (x : Bool) → test b ≡ true → test c ≡ x → (not x && list_all (λ p. not (first_is test p)) ps) ≡ true →
@@ -72,7 +69,7 @@ pub no_str : (test : ℕ → Bool) (b : ℕ) (rest : List ℕ) → test b ≡ tr
 no_str test b rest passes quote long small wide =
     rw (differs test b 34 passes quote, differs_from test b 76 passes long, differs_from test b 117 passes small, differs_from test b 85 passes wide) refl
 
--- whether a number stands there
+-- whether a number is there
 abbrev pub is_that : Option ℕ → ℕ → Bool
 is_that None i = false
 is_that (Some zero) zero = true

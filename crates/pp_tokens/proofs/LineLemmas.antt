@@ -13,7 +13,7 @@ use Rattle.pp_tokens.proofs.BothLemmas.{no_line_end}
 
 -- the tokens of the line that is begun
 
--- these tokens, with white space behind them or not, and those of the pieces
+-- these tokens, with white space after them or not, and those of the pieces
 abbrev with_more : List Token → Bool → List Piece → List Token
 with_more [] space pieces = tokens_in pieces
 with_more (t ∷ ts) space pieces = (t ∷ ts) ++ tokens_after space pieces
@@ -46,7 +46,7 @@ at_end : (h : Bool) (ps : List Piece) → has_end ps ≡ h → cond h (tokens_in
 at_end true ps is = refl
 at_end false ps is = ap tokens_in (sym (last_none ps is))
 
--- the tokens of the line that is begun behind a page and these pieces
+-- the tokens of the line that is begun after a page and these pieces
 abbrev Begun : LinesSoFar → List Piece → List Token
 Begun page ps = cond (has_end ps) (tokens_in (last_line ps)) (with_more page.tokens page.space ps)
 
@@ -88,7 +88,7 @@ word_line page (t ∷ ts) kind chars ps others is =
     ap (λ (us : List Token). page.lines ++ (begun_line page.number (us ++ new ∷ []) false ps ++ others)) is
     ∙ ap (λ (us : List Token). page.lines ++ (record { number = page.number; tokens = us } ∷ [] ++ others)) (append_assoc (t ∷ ts) (new ∷ []) (tokens_after false ps))
 
--- the lines of a page and of the pieces behind it
+-- the lines of a page and of the pieces after it
 abbrev AllLines : LinesSoFar → List Piece → List Line
 AllLines page ps = page.lines ++ (begun_line page.number page.tokens page.space (until_end ps) ++ flat_map line_in (after_ends ps))
 
@@ -113,7 +113,7 @@ put_more : (page : LinesSoFar) (before : List Piece) (q : Piece) → put_all pag
 put_more page [] q = refl
 put_more page (p ∷ before) q = put_more (put page p.what p.chars) before q
 
--- what is in front behind these pieces
+-- what is in front after these pieces
 abbrev Front : Bool → List Piece → Piece → List Piece → List Char → Type 0
 Front lines before p after rest = piece_at lines (header_may_stand (tokens_in (last_line before))) (bytes_of (p.chars ++ chars_of after ++ rest)) ≡ Some (p.what, length p.chars)
 

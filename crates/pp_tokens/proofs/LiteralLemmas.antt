@@ -1,14 +1,14 @@
 -- A constant or literal ends at its closing quote, so no token but its prefix begins it.
-use Rattle.std.proofs.Common.{◌≡◌, ◌≢◌, ℕ, eqb, Bool, true, false, not, ◌&&◌, ◌||◌, cond, List, [], ◌∷◌, ◌++◌, drop, refl, sym, ◌∙◌, ap, inl, inr, ◌⊎◌}
+use Rattle.std.proofs.Common.{◌≡◌, ◌≢◌, ℕ, eqb, Bool, true, false, not, ◌&&◌, ◌||◌, cond, List, [], ◌∷◌, ◌++◌, drop, refl, sym, ◌∙◌, ap, inl, inr}
 use Rattle.std.specs.List.{list_all}
+use Rattle.std.proofs.lemmas.Bool.{and_parts, or_cases}
 use borrow.Author.Tests.{eqb-true}
 use lib.Chars.{codes}
 use Rattle.pp_tokens.specs.Kinds.{begins, is_digit, is_letter, is_word, is_quote, is_identifier, is_closed, is_quoted, is_constant, is_char, is_str}
 use Rattle.pp_tokens.specs.Scan.{is_prefix_letter}
 use Rattle.pp_tokens.proofs.KindLemmas.{clash, differs_from}
-use Rattle.pp_tokens.proofs.LongestLemmas.{or_same}
 use Rattle.pp_tokens.proofs.WordLemmas.{char_letter, str_letter}
-use Rattle.pp_tokens.proofs.CloseLemmas.{both}
+use Rattle.mac_base.proofs.TestLemmas.{or_false}
 
 -- a prefix, which is an identifier where there is one, a quote, and what it closes
 pub record Literal (s : List ℕ) : Type 0 where
@@ -24,14 +24,14 @@ pub record Literal (s : List ℕ) : Type 0 where
 constant_parts : (u : List ℕ) → is_constant u ≡ true → (body : List ℕ) × (u ≡ 39 ∷ body) × (is_closed 39 body ≡ true)
 constant_parts [] is = cc
 constant_parts (q ∷ body) is =
-    let quoted = both (is_quoted 39 (q ∷ body)) _ is in
-    let parts = both (eqb q 39) _ quoted.0 in
+    let quoted = and_parts (is_quoted 39 (q ∷ body)) _ is in
+    let parts = and_parts (eqb q 39) _ quoted.0 in
     (body, ap (λ x. x ∷ body) (eqb-true q 39 parts.0), parts.1)
 
 quoted_parts : (u : List ℕ) → is_quoted 34 u ≡ true → (body : List ℕ) × (u ≡ 34 ∷ body) × (is_closed 34 body ≡ true)
 quoted_parts [] is = cc
 quoted_parts (q ∷ body) is =
-    let parts = both (eqb q 34) _ is in
+    let parts = and_parts (eqb q 34) _ is in
     (body, ap (λ x. x ∷ body) (eqb-true q 34 parts.0), parts.1)
 
 letter_word : (b : ℕ) → is_letter b ≡ true → is_word b ≡ true
@@ -43,16 +43,16 @@ no_letter b = not (is_letter b)
 plain_char : (b : ℕ) (rest : List ℕ) → is_letter b ≡ false → is_char (b ∷ rest) ≡ is_constant (b ∷ rest)
 unfolding no_letter
 plain_char b rest other =
-    rw (differs_from no_letter b 76 (ap not other) refl, differs_from no_letter b 117 (ap not other) refl, differs_from no_letter b 85 (ap not other) refl) (or_same (is_constant (b ∷ rest)))
+    rw (differs_from no_letter b 76 (ap not other) refl, differs_from no_letter b 117 (ap not other) refl, differs_from no_letter b 85 (ap not other) refl) (or_false (is_constant (b ∷ rest)))
 
 plain_str : (b : ℕ) (rest : List ℕ) → is_letter b ≡ false → is_str (b ∷ rest) ≡ is_quoted 34 (b ∷ rest)
 unfolding no_letter
 plain_str b rest other =
-    rw (differs_from no_letter b 76 (ap not other) refl, differs_from no_letter b 117 (ap not other) refl, differs_from no_letter b 85 (ap not other) refl) (or_same (is_quoted 34 (b ∷ rest)))
+    rw (differs_from no_letter b 76 (ap not other) refl, differs_from no_letter b 117 (ap not other) refl, differs_from no_letter b 85 (ap not other) refl) (or_false (is_quoted 34 (b ∷ rest)))
 
 char_literal : (b : ℕ) (rest : List ℕ) (l : Bool) → is_letter b ≡ l → is_char (b ∷ rest) ≡ true → Literal (b ∷ rest)
 char_literal b rest true letter is =
-    let parts = both (is_prefix_letter b) (is_constant rest) (sym (char_letter b rest letter) ∙ is) in
+    let parts = and_parts (is_prefix_letter b) (is_constant rest) (sym (char_letter b rest letter) ∙ is) in
     let found = constant_parts rest parts.1 in
     record {
       prefix = b ∷ [];
@@ -77,16 +77,12 @@ char_literal b rest false letter is =
       name = λ some. absurd (some refl);
     }
 
-either_true : (x y : Bool) → (x || y) ≡ true → (x ≡ true) ⊎ (y ≡ true)
-either_true true y is = inl refl
-either_true false y is = inr is
-
 u8_literal : (b : ℕ) (rest : List ℕ) → ((eqb b 117 && begins (codes "8") rest) && is_quoted 34 (drop 1 rest)) ≡ true → Literal (b ∷ rest)
-u8_literal b [] is = absurd (clash _ (both (eqb b 117) _ (both _ false is).0).1 refl)
+u8_literal b [] is = absurd (clash _ (and_parts (eqb b 117) _ (and_parts _ false is).0).1 refl)
 u8_literal b (c ∷ cs) is =
-    let parts = both (eqb b 117 && begins (codes "8") (c ∷ cs)) (is_quoted 34 cs) is in
-    let front = both (eqb b 117) (begins (codes "8") (c ∷ cs)) parts.0 in
-    let eight = both (eqb 56 c) true front.1 in
+    let parts = and_parts (eqb b 117 && begins (codes "8") (c ∷ cs)) (is_quoted 34 cs) is in
+    let front = and_parts (eqb b 117) (begins (codes "8") (c ∷ cs)) parts.0 in
+    let eight = and_parts (eqb 56 c) true front.1 in
     let found = quoted_parts cs parts.1 in
     record {
       prefix = 117 ∷ 56 ∷ [];
@@ -101,10 +97,10 @@ u8_literal b (c ∷ cs) is =
 
 str_literal : (b : ℕ) (rest : List ℕ) (l : Bool) → is_letter b ≡ l → is_str (b ∷ rest) ≡ true → Literal (b ∷ rest)
 str_literal b rest true letter is =
-    elim (either_true ((eqb b 117 && begins (codes "8") rest) && is_quoted 34 (drop 1 rest)) (is_prefix_letter b && is_quoted 34 rest) (sym (str_letter b rest letter) ∙ is)) [
+    elim (or_cases ((eqb b 117 && begins (codes "8") rest) && is_quoted 34 (drop 1 rest)) (is_prefix_letter b && is_quoted 34 rest) (sym (str_letter b rest letter) ∙ is)) [
       | inl first ↦ u8_literal b rest first
       | inr second ↦
-          let parts = both (is_prefix_letter b) (is_quoted 34 rest) second in
+          let parts = and_parts (is_prefix_letter b) (is_quoted 34 rest) second in
           let found = quoted_parts rest parts.1 in
           record {
             prefix = b ∷ [];

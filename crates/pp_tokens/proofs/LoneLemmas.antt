@@ -1,16 +1,13 @@
--- Behind a quote that nothing closes on its line, no other of its sort is closed on that line.
+-- After a quote that nothing closes on its line, no other of its sort is closed on that line.
 use Rattle.std.proofs.Common.{◌≡◌, ℕ, zero, suc, ◌+◌, ◌-◌, ◌<◌, eqb, ltb, Bool, true, false, cond, List, [], ◌∷◌, get_or, drop, Option, Some, None, refl, sym, ◌∙◌, ap, subst, arith, IsTrue}
-use Rattle.std.specs.Option.{option_map, is_some}
+use Rattle.std.specs.Option.{option_map}
 use Rattle.std.proofs.lemmas.List.{drop-drop, get_or-drop, drop-map}
 use borrow.Author.Tests.{eqb-true, ltb-true}
 use Rattle.pp_tokens.specs.Cleaning.{Char, bytes_of}
 use Rattle.pp_tokens.specs.Cut.{line_rest}
 use Rattle.pp_tokens.specs.Scan.{first_byte, closing, KnownLone, IsKnown, count_of}
 use Rattle.pp_tokens.proofs.KindLemmas.{clash}
-
-mapped_none : (f : ℕ → ℕ) (o : Option ℕ) → option_map f o ≡ None → o ≡ None
-mapped_none f None is = refl
-mapped_none f (Some n) is = cc
+use Rattle.mac_base.proofs.Choices.{none_mapped}
 
 NoneLater : ℕ → List ℕ → Type 0
 NoneLater quote bs = (j : ℕ) → j < line_rest bs → eqb (get_or bs j 0) quote ≡ true → closing quote (drop (suc j) bs) ≡ None
@@ -25,10 +22,10 @@ later_by quote b c cs true u v w one two three four none far near j less here = 
 later_by quote b c cs false true v w one two three four none far near j less here = absurd (omega arith)
 later_by quote b c cs false false v w one two three four none far near zero less here = absurd (clash (eqb b quote) here one)
 later_by quote b c cs false false true true one two three four none far near (suc j) less here = absurd (omega arith)
-later_by quote b c cs false false true false one two three four none far near (suc zero) less here = mapped_none (λ n. suc (suc n)) (closing quote cs) none
-later_by quote b c cs false false true false one two three four none far near (suc (suc j)) less here = far (mapped_none (λ n. suc (suc n)) (closing quote cs) none) j (omega arith) here
+later_by quote b c cs false false true false one two three four none far near (suc zero) less here = none_mapped (λ n. suc (suc n)) (closing quote cs) none
+later_by quote b c cs false false true false one two three four none far near (suc (suc j)) less here = far (none_mapped (λ n. suc (suc n)) (closing quote cs) none) j (omega arith) here
 later_by quote b c cs false false false w one two three four none far near (suc j) less here =
-    near (mapped_none suc (closing quote (c ∷ cs)) none) j (subst (λ x. j < cond x 0 (suc (line_rest cs))) (sym four) (omega arith)) here
+    near (none_mapped suc (closing quote (c ∷ cs)) none) j (subst (λ x. j < cond x 0 (suc (line_rest cs))) (sym four) (omega arith)) here
 
 last_by : (quote b : ℕ) (t u : Bool) → eqb b quote ≡ t → cond {A = Option ℕ} t (Some 1) None ≡ None → (j : ℕ) → j < cond u 0 1 → eqb (get_or (b ∷ []) j 0) quote ≡ true → closing quote (drop (suc j) (b ∷ [])) ≡ None
 last_by quote b true u one none j less here = cc
@@ -87,7 +84,3 @@ known-at quote n count single double cs behind known here is place less =
     ap (λ (b : List Char). closing quote (bytes_of b)) place
     ∙ ap (closing quote) (sym (behind_there cs n))
     ∙ at_by quote n single double (bytes_of cs) (eqb quote 39) (eqb quote 34) refl refl known (byte_there cs n quote here) within
-
-pub not_some : (o : Option ℕ) → is_some o ≡ false → o ≡ None
-not_some None is = refl
-not_some (Some n) is = cc

@@ -2,14 +2,16 @@
 use Rattle.std.proofs.Common.{◌≡◌, ℕ, zero, suc, ◌≤◌, ◌<◌, eqb, Bool, true, false, not, ◌&&◌, ◌||◌, cond, List, [], ◌∷◌, length, take, Option, Some, None, refl, sym, ◌∙◌, ap, subst, arith}
 use Rattle.std.specs.List.{list_all}
 use Rattle.std.specs.Option.{option_map}
+use Rattle.std.proofs.lemmas.Bool.{false_from_ne_true}
 use borrow.Author.Tests.{eqb-true, eqb-false}
 use Rattle.pp_tokens.specs.declared.token.Kind.{Kind}
 use Rattle.pp_tokens.specs.declared.token.Kind.TheVariants.{Number, Char as Constant, Str, LoneQuote}
 use Rattle.pp_tokens.specs.Kinds.{same, is_digit, is_letter, is_word, is_quote, is_blank, goes_on, is_number_rest, first_is, is_closed, is_quoted, is_constant, is_punct, is_one, kind_of}
 use Rattle.pp_tokens.specs.Cut.{longest, longest_within, longer}
 use Rattle.pp_tokens.specs.Scan.{number_rest, closing, quoted_length, quote_or}
-use Rattle.pp_tokens.proofs.KindLemmas.{kind_by, kind-from, kind_same, to_false, differs, digit_no_letter, no_punct, no_char, no_str, is_that, that_itself, that_same, that_more}
+use Rattle.pp_tokens.proofs.KindLemmas.{kind_by, kind-from, kind_same, differs, digit_no_letter, no_punct, no_char, no_str, is_that, that_itself, that_same, that_more}
 use Rattle.pp_tokens.proofs.Bounds.{AtMost, closing-most}
+use Rattle.mac_base.proofs.TestLemmas.{or_false}
 
 within_none : (bytes : List ℕ) (n : ℕ) (o : Option Kind) → kind_of (take (suc n) bytes) ≡ o → o ≡ None → longest_within bytes (suc n) ≡ longest_within bytes n
 within_none bytes n o is none = ap (λ x. longer x (suc n) (longest_within bytes n)) (is ∙ none)
@@ -99,10 +101,6 @@ dot_kind : (rest : List ℕ) (n : Bool) → first_is is_digit rest ≡ true → 
 dot_kind rest n digit goes =
     kind-from (46 ∷ rest) false n false false false _ _ refl (ap (λ x. x && is_number_rest 46 rest) digit ∙ goes) refl refl (dot_no_punct rest digit) refl refl
 
-pub or_true : (x : Bool) → (x || true) ≡ true
-or_true true = refl
-or_true false = refl
-
 digit_goes : (before c : ℕ) → is_digit c ≡ true → goes_on before c ≡ true
 digit_goes before c digit = by (is_letter c) (is_digit c) (eqb c 46) _ digit
   where
@@ -180,10 +178,6 @@ pub and_same : (x : Bool) → (x && true) ≡ x
 and_same true = refl
 and_same false = refl
 
-pub or_same : (x : Bool) → (x || false) ≡ x
-or_same true = refl
-or_same false = refl
-
 pub str_that : (cs : List ℕ) (i : ℕ) → i ≤ length cs → is_quoted 34 (34 ∷ take i cs) ≡ is_that (quoted_length 34 cs) (suc i)
 str_that cs i within = closed_is 34 cs i within ∙ sym (that_more (closing 34 cs) i)
 
@@ -219,13 +213,13 @@ pub quoted_some : (q n : ℕ) (cs : List ℕ) → quoted_length q cs ≡ Some n 
 quoted_some q n cs is = quoted_by q n cs ((eqb q 39) && first_is (λ b. eqb b 39) cs) is
 
 pub past : (k i : ℕ) → k < i → is_that (Some k) i ≡ false
-past k i less = to_false _ (λ is. let same : k ≡ i = that_same k i is in absurd (omega arith))
+past k i less = false_from_ne_true _ (λ is. let same : k ≡ i = that_same k i is in absurd (omega arith))
 
 kind_39 : (rest : List ℕ) (x : Bool) → is_constant (39 ∷ rest) ≡ x → kind_of (39 ∷ rest) ≡ long_kind false false x false false (39 ∷ rest)
-kind_39 rest x is = kind-from (39 ∷ rest) false false x false false _ _ refl refl (or_same (is_constant (39 ∷ rest)) ∙ is) refl refl refl refl
+kind_39 rest x is = kind-from (39 ∷ rest) false false x false false _ _ refl refl (or_false (is_constant (39 ∷ rest)) ∙ is) refl refl refl refl
 
 kind_34 : (rest : List ℕ) (x : Bool) → is_quoted 34 (34 ∷ rest) ≡ x → kind_of (34 ∷ rest) ≡ long_kind false false false x false (34 ∷ rest)
-kind_34 rest x is = kind-from (34 ∷ rest) false false false x false _ _ refl refl refl (or_same (is_quoted 34 (34 ∷ rest)) ∙ is) refl refl refl
+kind_34 rest x is = kind-from (34 ∷ rest) false false false x false _ _ refl refl refl (or_false (is_quoted 34 (34 ∷ rest)) ∙ is) refl refl refl
 
 pub longest_39 : (bs : List ℕ) (o : Option ℕ) → quoted_length 39 bs ≡ o → longest (39 ∷ bs) ≡ Some (quote_or 39 o)
 longest_39 bs None is =

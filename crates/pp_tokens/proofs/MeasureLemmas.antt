@@ -1,4 +1,4 @@
--- What is counted over the bytes in front goes on behind them.
+-- What is counted over the bytes in front goes on after them.
 use Rattle.std.proofs.Common.{◌≡◌, ℕ, suc, ◌+◌, Bool, true, false, not, ◌&&◌, ◌||◌, cond, eqb, List, [], ◌∷◌, take, drop, Option, Some, None, refl, sym, ◌∙◌, ap, length, ◌≤◌, arith}
 use Rattle.std.specs.Option.{option_map}
 use Rattle.std.proofs.lemmas.List.{drop-map, length-map}
@@ -127,7 +127,7 @@ word_cases : (t : Bool) (n : ℕ) (c : Char) (cs : List Char) → is_word c.byte
 word_cases true n c cs is inner = grind arith
 word_cases false n c cs is inner = omega arith
 
--- the letters and digits of the bytes in front are counted, and those behind them
+-- the letters and digits of the bytes in front are counted, and those after them
 pub word-on : (front : List ℕ) (cs : List Char) → front ≡ bytes_of (take (length front) cs) → word_length front + word_length (bytes_of (drop (word_length front) cs)) ≡ word_length (bytes_of cs)
 word-on [] cs is = omega arith
 word-on (b ∷ bs) [] is = cc

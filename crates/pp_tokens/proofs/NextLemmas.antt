@@ -1,25 +1,23 @@
 -- No token goes on over the end of its neighbour.
-use Rattle.std.proofs.Common.{◌≡◌, ◌≢◌, ℕ, ◌≤◌, leb, Bool, true, false, ◌||◌, List, [], ◌∷◌, ◌++◌, length, drop, Some, None, refl, sym, ◌∙◌, ap, subst, arith, append_assoc, append-nil, length-append, inl, inr, ◌⊎◌}
+use Rattle.std.proofs.Common.{◌≡◌, ◌≢◌, ℕ, ◌≤◌, leb, Bool, true, false, ◌||◌, List, [], ◌∷◌, ◌++◌, length, Some, None, refl, sym, ◌∙◌, ap, subst, arith, append_assoc, append-nil, length-append, inl, inr, ◌⊎◌}
 use Rattle.std.specs.List.{list_all}
 use Rattle.std.specs.Cmp.Lexicographic.{same_text}
-use Rattle.std.proofs.lemmas.List.{drop_at}
+use Rattle.std.proofs.lemmas.List.{append_cancel_left}
+use Rattle.std.proofs.lemmas.Bool.{and_parts, false_from_ne_true}
 use borrow.Author.Tests.{leb-true}
 use lib.Chars.{codes}
 use Rattle.pp_tokens.specs.declared.token.Kind.{Kind}
 use Rattle.pp_tokens.specs.declared.token.Kind.TheVariants.{LoneQuote}
 use Rattle.pp_tokens.specs.Kinds.{same, is_word, is_quote, is_identifier, is_number, is_closed, punctuators, is_punct, kind_of}
-use Rattle.pp_tokens.proofs.KindLemmas.{clash, to_false}
-use Rattle.pp_tokens.proofs.CloseLemmas.{both, all_back, no_number_with, no_identifier_with, no_punct_with, identifier_front, number_front, in_table, Fails, fails, none-from}
+use Rattle.pp_tokens.proofs.KindLemmas.{clash}
+use Rattle.pp_tokens.proofs.CloseLemmas.{all_back, no_number_with, no_identifier_with, no_punct_with, identifier_front, number_front, in_table, Fails, fails, none-from}
 use Rattle.pp_tokens.proofs.LiteralLemmas.{Literal, literal_of_char, literal_of_str, closed_end}
 use Rattle.pp_tokens.proofs.FrontOfLemmas.{sort_of, quoted_token, front_of_prefix}
 
--- what the byte behind the token is in a literal that goes on from it
+-- what the byte after the token is in a literal that goes on from it
 data Next (t : List ℕ) (c : ℕ) (more : List ℕ) (l : Literal (t ++ c ∷ more)) : Type 0 where
   quote : l.quote ≡ c → l.body ≡ more → Next t c more l
   word : (y : List ℕ) → l.prefix ≡ t ++ c ∷ y → Next t c more l
-
-same_behind : (t v w : List ℕ) → t ++ v ≡ t ++ w → v ≡ w
-same_behind t v w is = sym (drop_at t v (length t) refl) ∙ ap (drop (length t)) is ∙ drop_at t w (length t) refl
 
 next_by : (t : List ℕ) (c : ℕ) (more : List ℕ) (l : Literal (t ++ c ∷ more)) (y : List ℕ) → l.prefix ≡ t ++ y → c ∷ more ≡ y ++ l.quote ∷ l.body → Next t c more l
 next_by t c more l [] front is = quote (let same_byte : c ≡ l.quote = cc in sym same_byte) (let rest : more ≡ l.body = cc in sym rest)
@@ -28,18 +26,18 @@ next_by t c more l (b ∷ y) front is = word y (front ∙ (let same_byte : c ≡
 next_of : (k : Kind) (t : List ℕ) (c : ℕ) (more : List ℕ) (l : Literal (t ++ c ∷ more)) → kind_of t ≡ Some k → k ≢ LoneQuote → Next t c more l
 next_of k t c more l is not_lone =
     let front = front_of_prefix k t (c ∷ more) c more l is not_lone refl in
-    next_by t c more l front.0 front.1 (same_behind t (c ∷ more) (front.0 ++ l.quote ∷ l.body) (l.is ∙ ap (λ p. p ++ l.quote ∷ l.body) front.1 ∙ append_assoc t front.0 (l.quote ∷ l.body)))
+    next_by t c more l front.0 front.1 (append_cancel_left t (c ∷ more) (front.0 ++ l.quote ∷ l.body) (l.is ∙ ap (λ p. p ++ l.quote ∷ l.body) front.1 ∙ append_assoc t front.0 (l.quote ∷ l.body)))
 
 empty_kind : (k : Kind) → kind_of [] ≡ Some k → ⊥
 empty_kind k is = cc
 
--- white space behind a token
+-- white space after a token
 blank_literal : (k : Kind) (t more : List ℕ) → kind_of t ≡ Some k → k ≢ LoneQuote → Literal (t ++ 32 ∷ more) → ⊥
 blank_literal k t more is not_lone l = by (next_of k t 32 more l is not_lone)
   where
     by : Next t 32 more l → ⊥
     by (quote sort body) = clash (is_quote l.quote) l.sort (ap is_quote sort)
-    by (word y front) = clash (is_word 32) (both (is_word 32) (list_all is_word y) (all_back is_word t (32 ∷ y) (ap (list_all is_word) (sym front) ∙ l.words))).0 refl
+    by (word y front) = clash (is_word 32) (and_parts (is_word 32) (list_all is_word y) (all_back is_word t (32 ∷ y) (ap (list_all is_word) (sym front) ∙ l.words))).0 refl
 
 long_text : (a : ℕ) (t : List ℕ) (b : ℕ) (more : List ℕ) → 2 ≤ length (a ∷ (t ++ b ∷ more))
 long_text a t b more = omega (arith, length-append t (b ∷ more))
@@ -50,12 +48,12 @@ blank-behind k (a ∷ t) more is not_lone =
     none-from ((a ∷ t) ++ 32 ∷ more) (long_text a t 32 more) (record {
       identifier = no_identifier_with a t 32 more refl;
       number = no_number_with a t 32 more (λ before. refl);
-      char = to_false _ (λ char. blank_literal k (a ∷ t) more is not_lone (literal_of_char _ char));
-      str = to_false _ (λ str. blank_literal k (a ∷ t) more is not_lone (literal_of_str _ str));
+      char = false_from_ne_true _ (λ char. blank_literal k (a ∷ t) more is not_lone (literal_of_char _ char));
+      str = false_from_ne_true _ (λ str. blank_literal k (a ∷ t) more is not_lone (literal_of_str _ str));
       punct = no_punct_with 32 (a ∷ t) more refl;
     })
 
--- A token, its neighbour, and the byte behind: the fronts of the neighbour make no token with it, the two are no dots, and the byte makes no token with the neighbour.
+-- A token, its neighbour, and the byte after it: the prefixes of the neighbour make no token with it, the two are no dots, and the byte makes no token with the neighbour.
 pub record Neighbours (k j : Kind) (t u : List ℕ) (d : ℕ) : Type 0 where
   pub first : kind_of t ≡ Some k
   pub first_closed : k ≢ LoneQuote
@@ -162,7 +160,7 @@ long_cases s false false false true one two three_is four_is is = inr (inr (inr 
 long_cases s false false false false one two three_is four_is is = cc
 
 not_short : (s : List ℕ) → 3 ≤ length s → leb (length s) 2 ≡ false
-not_short s long = to_false _ (λ is. let short : length s ≤ 2 = leb-true (length s) 2 is in absurd (omega arith))
+not_short s long = false_from_ne_true _ (λ is. let short : length s ≤ 2 = leb-true (length s) 2 is in absurd (omega arith))
 
 long_here : (s : List ℕ) (x : Bool) → leb (length s) 2 ≡ x → 3 ≤ length s → (x || is_long s) ≡ true → is_long s ≡ true
 long_here s true short long is = absurd (clash (leb (length s) 2) short (not_short s long))
@@ -200,9 +198,9 @@ over-neighbour k j (a ∷ t) (b ∷ u) d more n =
     let assoc : (a ∷ t) ++ (b ∷ u) ++ (d ∷ more) ≡ (a ∷ t) ++ (b ∷ (u ++ d ∷ more)) = append_assoc (a ∷ t) (b ∷ u) (d ∷ more) in
     let no_literal : Literal ((a ∷ t) ++ (b ∷ u) ++ (d ∷ more)) → ⊥ = λ l. over_literal k j (a ∷ t) b u d more n (subst Literal assoc l) in
     none-from ((a ∷ t) ++ (b ∷ u) ++ (d ∷ more)) (let long = three_more a b d t u more in omega (arith, long)) (record {
-      identifier = to_false _ (λ is. clash (is_identifier ((a ∷ t) ++ (b ∷ u))) (identifier_front a (t ++ b ∷ u) (d ∷ more) is) both_fail.identifier);
-      number = to_false _ (λ is. clash (is_number ((a ∷ t) ++ (b ∷ u))) (number_over a t b u (d ∷ more) is) both_fail.number);
-      char = to_false _ (λ is. no_literal (literal_of_char _ is));
-      str = to_false _ (λ is. no_literal (literal_of_str _ is));
-      punct = to_false _ (λ is. over_punct k j a t b u d more n is);
+      identifier = false_from_ne_true _ (λ is. clash (is_identifier ((a ∷ t) ++ (b ∷ u))) (identifier_front a (t ++ b ∷ u) (d ∷ more) is) both_fail.identifier);
+      number = false_from_ne_true _ (λ is. clash (is_number ((a ∷ t) ++ (b ∷ u))) (number_over a t b u (d ∷ more) is) both_fail.number);
+      char = false_from_ne_true _ (λ is. no_literal (literal_of_char _ is));
+      str = false_from_ne_true _ (λ is. no_literal (literal_of_str _ is));
+      punct = false_from_ne_true _ (λ is. over_punct k j a t b u d more n is);
     })

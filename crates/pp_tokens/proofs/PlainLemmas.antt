@@ -22,7 +22,7 @@ plain_bound zero bytes all = omega arith
 plain_bound (suc n) [] all = absurd all.0
 plain_bound (suc n) (a ∷ bs) all = omega (arith, plain_bound n bs all.1)
 
--- behind some of them the others are plain
+-- after some of them the others are plain
 pub plain_past : (m k n : ℕ) (bytes : List ℕ) → n ≡ m + k → ArePlain n bytes → ArePlain k (drop m bytes)
 plain_past zero k n bytes is all = subst (λ x. ArePlain x bytes) (omega (arith, is)) all
 plain_past (suc m) k zero bytes is all = absurd (omega (arith, is))
@@ -37,14 +37,14 @@ plain_line (suc n) (a ∷ []) all = absurd all.0
 plain_line (suc n) (a ∷ b ∷ bs) all = ap (λ t. cond t 0 (suc (line_rest (take n (b ∷ bs))))) (apart a 10 all.0.1) ∙ ap suc (plain_line n (b ∷ bs) all.1)
 
 module _ (cleans : Bool) (line : ℕ) where
-  -- behind them the cursor stands as before
+  -- after them the cursor is as before
   pub place_past : (m n : ℕ) (bytes : List ℕ) → m ≤ n → ArePlain n bytes → IsPlace cleans line bytes → IsPlace cleans line (drop m bytes)
   place_past zero n bytes less all place = place
   place_past (suc m) zero bytes less all place = absurd (omega (arith, less))
   place_past (suc m) (suc n) [] less all place = absurd all.0
   place_past (suc m) (suc n) (a ∷ bs) less all place = place_past m n bs (omega (arith, less)) all.1 (plain-place cleans line (a ∷ bs) place all.0)
 
-  -- and what is left is what stood behind them
+  -- and what is left is what came after them
   pub left_past : (m n : ℕ) (bytes : List ℕ) → m ≤ n → ArePlain n bytes → IsPlace cleans line bytes → left_of cleans line (drop m bytes) ≡ drop m (left_of cleans line bytes)
   left_past zero n bytes less all place = refl
   left_past (suc m) zero bytes less all place = absurd (omega (arith, less))

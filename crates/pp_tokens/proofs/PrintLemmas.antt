@@ -1,4 +1,4 @@
--- Tokens are printed one behind the other.
+-- Tokens are printed one after the other.
 use Rattle.std.proofs.Common.{◌≡◌, ℕ, zero, suc, ◌+◌, ◌-◌, ◌≤◌, ◌<◌, Bool, List, [], ◌∷◌, ◌++◌, length, get_or, take, Result, Ok, Err, refl, sym, ◌∙◌, ap, subst, arith, append_assoc, ◌↔◌}
 use Rattle.std.specs.Bool.{IsTrue}
 use Rattle.pp_tokens.specs.declared.fault.LexFault.{LexFault}

@@ -137,7 +137,7 @@ gap_unique t u one other (inl (first, parted)) (inr (second, never)) = absurd (n
 gap_unique t u one other (inr (first, never)) (inl (second, parted)) = absurd (never parted)
 gap_unique t u one other (inr (first, never)) (inr (second, also)) = first ∙ sym second
 
-printed : (tokens : List Token) → (text : List ℕ) × Prints tokens text
+pub printed : (tokens : List Token) → (text : List ℕ) × Prints tokens text
 printed [] = ([], refl)
 printed (t ∷ []) = (t.text, refl)
 printed (t ∷ u ∷ ts) =
@@ -145,7 +145,7 @@ printed (t ∷ u ∷ ts) =
     let rest = printed (u ∷ ts) in
     (t.text ++ gap.0 ++ rest.0, (gap.0, rest.0, gap.1, rest.1, refl))
 
-printed_unique : (tokens : List Token) (one other : List ℕ) → Prints tokens one → Prints tokens other → one ≡ other
+pub printed_unique : (tokens : List Token) (one other : List ℕ) → Prints tokens one → Prints tokens other → one ≡ other
 printed_unique [] one other first second = first ∙ sym second
 printed_unique (t ∷ []) one other first second = first ∙ sym second
 printed_unique (t ∷ u ∷ ts) one other (gap, rest, is_gap, prints, whole) (gap', rest', is_gap', prints', whole') =

@@ -2,14 +2,16 @@
 use Rattle.std.proofs.Common.{◌≡◌, ℕ, zero, suc, ◌≤◌, ◌<◌, eqb, Bool, true, false, not, ◌&&◌, ◌||◌, cond, List, [], ◌∷◌, length, take, Option, Some, None, refl, sym, ◌∙◌, ap, subst, arith, eq-eqb}
 use Rattle.std.specs.List.{list_any, list_all, find}
 use Rattle.std.specs.Option.{option_map}
+use Rattle.std.proofs.lemmas.Bool.{and_parts, or_from, false_from_ne_true}
 use borrow.Author.Tests.{eqb-true}
 use Rattle.pp_tokens.specs.declared.token.Kind.TheVariants.{Punct, Other}
 use Rattle.pp_tokens.specs.Kinds.{begins, same, is_digit, is_letter, is_word, is_quote, is_blank, is_number_rest, first_is, begins_number, punctuators, is_punct, is_one, kind_of}
 use Rattle.pp_tokens.specs.Cut.{longest}
 use Rattle.pp_tokens.specs.Scan.{punct_or, search_order, punctuator_length}
-use Rattle.pp_tokens.proofs.KindLemmas.{kind_by, kind-from, clash, to_false, no_char, no_str}
+use Rattle.pp_tokens.proofs.KindLemmas.{kind_by, kind-from, clash, no_char, no_str}
 use Rattle.pp_tokens.proofs.CloseLemmas.{in_table}
-use Rattle.pp_tokens.proofs.LongestLemmas.{longest_cons, not_one, first_taken, or_true}
+use Rattle.pp_tokens.proofs.LongestLemmas.{longest_cons, not_one, first_taken}
+use Rattle.mac_base.proofs.TestLemmas.{or_true, same_tests}
 
 begins_more : (b c : ℕ) (p bytes : List ℕ) (m : ℕ) (x : Bool) → eqb b c ≡ x → (x && same (take m bytes) p) ≡ true → (same (take m bytes) p ≡ true → (begins p bytes ≡ true) × (length p ≡ m)) →
     ((eqb c b && begins p bytes) ≡ true) × (suc (length p) ≡ suc m)
@@ -62,23 +64,16 @@ ordered : List (List ℕ) → Bool
 ordered [] = true
 ordered (p ∷ ps) = list_all (λ q. not (begins p q)) ps && ordered ps
 
-both : (x y : Bool) → (x && y) ≡ true → (x ≡ true) × (y ≡ true)
-both true y is = (refl, is)
-both false y is = cc
-
-neither : (x y : Bool) → x ≡ false → y ≡ false → (x || y) ≡ false
-neither x y first second = ap (λ z. z || y) first ∙ second
-
 no_front : (p bytes : List ℕ) (m : ℕ) → m ≤ length bytes → begins p bytes ≡ false → same (take m bytes) p ≡ false
-no_front p bytes m within fails = to_false _ (λ is. clash (begins p bytes) (same_begins p bytes m within is).0 fails)
+no_front p bytes m within fails = false_from_ne_true _ (λ is. clash (begins p bytes) (same_begins p bytes m within is).0 fails)
 
 no_length : (p bytes : List ℕ) (m : ℕ) → m ≤ length bytes → length p < m → same (take m bytes) p ≡ false
-no_length p bytes m within less = to_false _ (λ is. let same_length : length p ≡ m = (same_begins p bytes m within is).1 in absurd (omega arith))
+no_length p bytes m within less = false_from_ne_true _ (λ is. let same_length : length p ≡ m = (same_begins p bytes m within is).1 in absurd (omega arith))
 
 any_none_by : (p bytes : List ℕ) (ps : List (List ℕ)) (m : ℕ) (x : Bool) → m ≤ length bytes → begins p bytes ≡ x → cond x (Some p) (find (λ q. begins q bytes) ps) ≡ None → (find (λ q. begins q bytes) ps ≡ None → list_any (same (take m bytes)) ps ≡ false) →
     (same (take m bytes) p || list_any (same (take m bytes)) ps) ≡ false
 any_none_by p bytes ps m true within here is inner = cc
-any_none_by p bytes ps m false within here is inner = neither _ _ (no_front p bytes m within here) (inner is)
+any_none_by p bytes ps m false within here is inner = or_from _ _ (no_front p bytes m within here) (inner is)
 
 any_none : (table : List (List ℕ)) (bytes : List ℕ) (m : ℕ) → m ≤ length bytes → find (λ q. begins q bytes) table ≡ None → list_any (same (take m bytes)) table ≡ false
 any_none [] bytes m within is = refl
@@ -93,9 +88,9 @@ record Found (table : List (List ℕ)) (bytes p : List ℕ) : Type 0 where
 later_none : (p bytes : List ℕ) (ps : List (List ℕ)) (m : ℕ) → begins p bytes ≡ true → length p < m → m ≤ length bytes → list_all (λ q. not (begins p q)) ps ≡ true → list_any (same (take m bytes)) ps ≡ false
 later_none p bytes [] m front less within all = refl
 later_none p bytes (q ∷ qs) m front less within all =
-    let parts = both (not (begins p q)) _ all in
-    neither _ _
-    (to_false _ (λ is.
+    let parts = and_parts (not (begins p q)) _ all in
+    or_from _ _
+    (false_from_ne_true _ (λ is.
     let found = same_begins q bytes m within is in
     let bound : length p ≤ length q = omega (arith, found.1) in
     clash (not (begins p q)) parts.0 (ap not (both_begin p q bytes front found.0 bound))))
@@ -108,21 +103,21 @@ found_by q bytes p qs true here is all inner =
     subst (Found (q ∷ qs) bytes) same_text (record {
       front = here;
       there = ap (λ x. x || list_any (same (take (length q) bytes)) qs) (begins_same q bytes here).1;
-      longer = λ m less within. neither _ _ (no_length q bytes m within less) (later_none q bytes qs m here less within all);
+      longer = λ m less within. or_from _ _ (no_length q bytes m within less) (later_none q bytes qs m here less within all);
     })
 found_by q bytes p qs false here is all inner =
     let later = inner is in
     record {
       front = later.front;
       there = ap (λ x. same (take (length p) bytes) q || x) later.there ∙ or_true _;
-      longer = λ m less within. neither _ _ (no_front q bytes m within here) (later.longer m less within);
+      longer = λ m less within. or_from _ _ (no_front q bytes m within here) (later.longer m less within);
     }
 
 found : (table : List (List ℕ)) (bytes p : List ℕ) → ordered table ≡ true → find (λ q. begins q bytes) table ≡ Some p → Found table bytes p
 unfolding ordered
 found [] bytes p order is = cc
 found (q ∷ qs) bytes p order is =
-    let parts = both (list_all (λ r. not (begins q r)) qs) (ordered qs) order in
+    let parts = and_parts (list_all (λ r. not (begins q r)) qs) (ordered qs) order in
     found_by q bytes p qs (begins q bytes) refl is parts.0 (found qs bytes p parts.1)
 
 -- a text of the table has a byte
@@ -130,8 +125,8 @@ filled_by : (q bytes p : List ℕ) (qs : List (List ℕ)) (x : Bool) → cond x 
     (find (λ r. begins r bytes) qs ≡ Some p → list_all (first_is (λ b. true)) qs ≡ true → first_is (λ b. true) p ≡ true) → first_is (λ b. true) p ≡ true
 filled_by q bytes p qs true is all inner =
     let same_text : q ≡ p = cc in
-    subst (λ t. first_is (λ b. true) t ≡ true) same_text (both (first_is (λ b. true) q) _ all).0
-filled_by q bytes p qs false is all inner = inner is (both (first_is (λ b. true) q) _ all).1
+    subst (λ t. first_is (λ b. true) t ≡ true) same_text (and_parts (first_is (λ b. true) q) _ all).0
+filled_by q bytes p qs false is all inner = inner is (and_parts (first_is (λ b. true) q) _ all).1
 
 filled : (table : List (List ℕ)) (bytes p : List ℕ) → list_all (first_is (λ b. true)) table ≡ true → find (λ q. begins q bytes) table ≡ Some p → first_is (λ b. true) p ≡ true
 filled [] bytes p all is = cc
@@ -164,15 +159,9 @@ other_none : (b : ℕ) (bs : List ℕ) (i : ℕ) → is_letter b ≡ false → b
 other_none b bs i letter number quote punct some within =
     other_kind b bs i false false false letter number quote punct (not_one is_quote b bs i some within) (not_one (λ c. not (is_blank c || eqb c 10)) b bs i some within)
 
--- the order of the search has the same texts as the table
-same_test : (x y : Bool) → (x ≡ true → y ≡ true) → (y ≡ true → x ≡ true) → x ≡ y
-same_test true y there back = sym (there refl)
-same_test false true there back = back refl
-same_test false false there back = refl
-
 punct-order : (s : List ℕ) → is_punct s ≡ list_any (same s) search_order
 punct-order s =
-    same_test (is_punct s) (list_any (same s) search_order)
+    same_tests (is_punct s) (list_any (same s) search_order)
     (in_table (λ p. list_any (same p) search_order) punctuators s refl) (in_table (λ p. list_any (same p) punctuators) search_order s refl)
 
 punct_by : (b : ℕ) (bs : List ℕ) (o : Option (List ℕ)) → is_letter b ≡ false → begins_number b bs ≡ false → is_quote b ≡ false → eqb b 10 ≡ false → is_blank b ≡ false → find (λ p. begins p (b ∷ bs)) search_order ≡ o →

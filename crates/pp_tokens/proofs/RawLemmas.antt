@@ -1,13 +1,14 @@
 -- What the cursor finds in front is the head of what phases 1 and 2 leave.
 use Rattle.std.proofs.Common.{◌≡◌, ◌≢◌, ℕ, ◌+◌, eqb, ltb, Bool, true, false, ◌&&◌, cond, List, [], ◌∷◌, drop, Option, Some, None, refl, sym, ◌∙◌, ap, subst, arith}
 use Rattle.std.specs.Option.{unwrap_or}
+use Rattle.std.proofs.lemmas.Bool.{and_parts, false_from_ne_true}
 use borrow.Author.Tests.{eqb-true}
 use Rattle.pp_tokens.specs.Cleaning.{Char, bytes_of, numbered, without_cr, trigraph, replaced, without_trigraphs}
 use Rattle.pp_tokens.specs.Kinds.{first_is}
 use Rattle.pp_tokens.specs.Raw.{spelled, decoded, feed}
-use Rattle.pp_tokens.proofs.KindLemmas.{clash, to_false}
+use Rattle.pp_tokens.proofs.KindLemmas.{clash}
 
--- the line behind a byte
+-- the line after a byte
 abbrev pub next_line : ℕ → ℕ → ℕ
 next_line line byte = cond (eqb byte 10) (line + 1) line
 
@@ -41,15 +42,11 @@ returned line bytes = without_cr (numbered line bytes)
 abbrev pub unspliced : ℕ → List ℕ → List Char
 unspliced line bytes = without_trigraphs (returned line bytes)
 
-both_true : (x y : Bool) → (x && y) ≡ true → (x ≡ true) × (y ≡ true)
-both_true true y is = (refl, is)
-both_true false y is = cc
-
 -- a carriage return before a line feed
 return_gone : (line a : ℕ) (xs : List ℕ) → (eqb a 13 && first_is (λ c. eqb c 10) xs) ≡ true → returned line (a ∷ xs) ≡ record { byte = 10; line = line } ∷ returned (line + 1) (drop 1 xs)
-return_gone line a [] both = absurd (clash false (both_true (eqb a 13) false both).1 refl)
+return_gone line a [] both = absurd (clash false (and_parts (eqb a 13) false both).1 refl)
 return_gone line a (b ∷ bs) both =
-    let parts = both_true (eqb a 13) (eqb b 10) both in
+    let parts = and_parts (eqb a 13) (eqb b 10) both in
     let first : 13 ≡ a = sym (eqb-true a 13 parts.0) in
     let second : 10 ≡ b = sym (eqb-true b 10 parts.1) in
     subst (λ x. returned line (x ∷ b ∷ bs) ≡ record { byte = 10; line = line } ∷ returned (line + 1) bs) first
@@ -74,7 +71,7 @@ trigraph_feed t =
     (either NoFeed (eqb t 60) _ _ refl (either NoFeed (eqb t 33) _ _ refl (either NoFeed (eqb t 62) _ _ refl (either NoFeed (eqb t 45) (Some 126) None refl tt))))))))
 
 third_no_feed : (t b : ℕ) → trigraph t ≡ Some b → eqb t 10 ≡ false
-third_no_feed t b is = to_false (eqb t 10) (λ feed_is. let same : t ≡ 10 = eqb-true t 10 feed_is in let none : trigraph t ≡ None = ap trigraph same in cc)
+third_no_feed t b is = false_from_ne_true (eqb t 10) (λ feed_is. let same : t ≡ 10 = eqb-true t 10 feed_is in let none : trigraph t ≡ None = ap trigraph same in cc)
 
 -- the unit in front
 abbrev Heads : ℕ → List ℕ → ℕ × ℕ → Type 0
@@ -89,7 +86,7 @@ third line t ts true None return is =
     ap (λ (cs : List Char). without_trigraphs (record { byte = 63; line = line } ∷ record { byte = 63; line = line } ∷ cs)) gone
     ∙ ap (λ (cs : List Char). record { byte = 63; line = line } ∷ without_trigraphs (record { byte = 63; line = line } ∷ cs)) (sym gone)
 third line t ts true (Some b) return is =
-    let same : t ≡ 13 = eqb-true t 13 (both_true (eqb t 13) _ return).0 in
+    let same : t ≡ 13 = eqb-true t 13 (and_parts (eqb t 13) _ return).0 in
     let none : trigraph t ≡ None = ap trigraph same in cc
 third line t ts false None return is =
     let kept = kept_return line t ts return in
@@ -123,14 +120,14 @@ decoded_plain a (b ∷ []) other = refl
 decoded_plain a (b ∷ c ∷ cs) other = ap (λ x. Some (spelled a (cond (x && eqb b 63) (trigraph c) None))) other
 
 return_feed : (a : ℕ) (bs : List ℕ) → (eqb a 13 && first_is (λ c. eqb c 10) bs) ≡ true → feed (a ∷ bs) ≡ 2
-return_feed a [] both = absurd (clash false (both_true (eqb a 13) false both).1 refl)
+return_feed a [] both = absurd (clash false (and_parts (eqb a 13) false both).1 refl)
 return_feed a (b ∷ bs) both =
-    let parts = both_true (eqb a 13) (eqb b 10) both in
+    let parts = and_parts (eqb a 13) (eqb b 10) both in
     let first : 13 ≡ a = sym (eqb-true a 13 parts.0) in
     subst (λ x. feed (x ∷ b ∷ bs) ≡ 2) first (ap (λ x. cond x 2 0) parts.1)
 
 no_return : (a : ℕ) (bs : List ℕ) → feed (a ∷ bs) ≢ 2 → (eqb a 13 && first_is (λ c. eqb c 10) bs) ≡ false
-no_return a bs kept = to_false _ (λ both. kept (return_feed a bs both))
+no_return a bs kept = false_from_ne_true _ (λ both. kept (return_feed a bs both))
 
 step_by : (line a : ℕ) (bs : List ℕ) (unit : ℕ × ℕ) (t : Bool) → eqb a 63 ≡ t → decoded (a ∷ bs) ≡ Some unit → feed (a ∷ bs) ≢ 2 → Heads line (a ∷ bs) unit
 step_by line a bs unit true mark is kept =

@@ -79,7 +79,7 @@ laid_blank page ts r laid = record {
   same = laid.same;
 }
 
--- no header name may stand
+-- no header name may be there
 NoHeader : List Token → List Token → Type 0
 NoHeader before ts = header_may_stand (take 2 (before ++ ts)) ≡ false
 
@@ -101,7 +101,7 @@ no_header_next [] t made (u ∷ ts) is none = same_headers made u t u is refl �
 no_header_next (a ∷ []) t made ts is none = same_headers a made a t refl is ∙ none
 no_header_next (a ∷ b ∷ before) t made ts is none = none
 
--- what stands behind each token
+-- what follows each token
 
 record Behind (t : Token) (text : List ℕ) : Type 0 where
   rest : List ℕ

@@ -15,7 +15,7 @@ use Rattle.pp_tokens.proofs.ScanLemmas.{Within, piece-within}
 use Rattle.pp_tokens.proofs.BothLemmas.{NoEnd, pick, blank_no_end, comment_no_end, token_no_end}
 use Rattle.pp_tokens.proofs.RawLemmas.{NoFeed, trigraph_feed}
 
--- each byte stands on this line or a later one, and on a later one behind a line feed
+-- each byte is on this line or a later one, and on a later one after a line feed
 abbrev next : Char → ℕ
 next c = cond (eqb c.byte 10) (c.line + 1) c.line
 
@@ -97,7 +97,7 @@ rises : (low : ℕ) (ls : List Line) (high : ℕ) → Between low ls high → Ri
 rises low [] high below = tt
 rises low (l ∷ ls) high below = (below.0, rises l.number ls high below.1)
 
--- the line that is begun stands above the lines before it, and what is left stands no earlier
+-- the line that is begun is above the lines before it, and what is left is no earlier
 abbrev Fits : LinesSoFar → List Token → ℕ → Type 0
 Fits page [] n = Between 0 page.lines n
 Fits page (t ∷ ts) n = Between 0 page.lines page.number × (page.number ≤ n)
@@ -129,7 +129,7 @@ end_at : (header : Bool) (b : ℕ) (bs : List ℕ) (n : ℕ) → piece_at true h
 end_at header b bs n is =
     end_by (eqb b 10) n _ (pick (is_blank b) _ _ blank_no_end (pick (begins (codes "//") (b ∷ bs)) _ _ comment_no_end (pick (begins (codes "/*") (b ∷ bs)) _ _ (block_no_end (up_to_close (drop 1 bs))) (token_no_end (cond header (header_name (b ∷ bs)) None) (b ∷ bs))))) is
 
--- where a page stands behind a piece
+-- where a page is after a piece
 record Stands (page : LinesSoFar) (rest : List Char) : Type 0 where
   line : ℕ
   fits : Fits page page.tokens line

@@ -6,6 +6,7 @@ use Rattle.std.specs.Option.{unwrap_or, option_map}
 use Rattle.std.specs.Cmp.Lexicographic.{same_text}
 use borrow.Author.Tests.{eqb-true}
 use Rattle.std.proofs.lemmas.Bool.Decides.{nat_tests}
+use Rattle.std.proofs.lemmas.Bool.{false_from_ne_true}
 use lib.Chars.{codes}
 use Rattle.pp_tokens.specs.declared.line.Line.{Line}
 use Rattle.pp_tokens.specs.declared.piece.PieceKind.{PieceKind}
@@ -18,13 +19,9 @@ use Rattle.pp_tokens.specs.Kinds.{begins, same, first_is, is_quote, is_blank, is
 use Rattle.pp_tokens.specs.Cut.{LinesSoFar, Piece, no_page, put, put_all, with_token, ended, lines_of, chars_of, longest, longest_within, longer, up_to, header_name, token_or, line_rest, up_to_close, piece_at, header_may_stand, AreCut}
 use Rattle.pp_tokens.specs.Tokens.{is_identifier_kind, is_punctuator_kind, is_quote_kind}
 use Rattle.pp_tokens.specs.Spelled.{KindIsSpelled, LineIsSpelled, FileIsSpelled, TextIsSpelled, OperatorsArePunctuators, NamesAreIdentifiers}
-use Rattle.pp_tokens.proofs.KindLemmas.{kind_by, kind_tests, clash, to_false}
-use Rattle.pp_tokens.proofs.CloseLemmas.{in_table, has, or_true}
-
-same_test : (x y : Bool) → (x ≡ true → y ≡ true) → (y ≡ true → x ≡ true) → x ≡ y
-same_test true y there back = sym (there refl)
-same_test false true there back = back refl
-same_test false false there back = refl
+use Rattle.pp_tokens.proofs.KindLemmas.{kind_by, kind_tests, clash}
+use Rattle.pp_tokens.proofs.CloseLemmas.{in_table, has}
+use Rattle.mac_base.proofs.TestLemmas.{or_true, same_tests}
 
 -- a kind and a text that agree
 record Agree (k : Kind) (s : List ℕ) : Type 0 where
@@ -115,11 +112,11 @@ by_table k s is = record {
   kind = λ other. is;
   identifier = identifier_by (is_identifier s) (is_number s) (is_char s) (is_str s) (is_punct s) (is_one is_quote s) (is_one (λ b. not (is_blank b || eqb b 10)) s) k (sym (kind_tests s) ∙ is);
   punctuator =
-      same_test (is_punctuator_kind k) (is_punct s)
+      same_tests (is_punctuator_kind k) (is_punct s)
       (λ own. punctuator_by (is_identifier s) (is_number s) (is_char s) (is_str s) (is_punct s) (is_one is_quote s) (is_one (λ b. not (is_blank b || eqb b 10)) s) (sym (kind_tests s) ∙ is ∙ ap Some (kind_is_punct k own)))
       (λ there. passes_own is_punctuator_kind (kind_of s) k is (all_punct s there));
   lone_quote =
-      same_test (is_quote_kind k) (is_one is_quote s)
+      same_tests (is_quote_kind k) (is_one is_quote s)
       (λ own. quote_by (is_identifier s) (is_number s) (is_char s) (is_str s) (is_punct s) (is_one is_quote s) (is_one (λ b. not (is_blank b || eqb b 10)) s) (sym (kind_tests s) ∙ is ∙ ap Some (kind_is_quote k own)))
       (λ there. passes_own is_quote_kind (kind_of s) k is (all_quote s there));
 }
@@ -146,7 +143,7 @@ up_to_has last (b ∷ bs) m is = up_to_has_by last b bs m (eqb b last) (eqb b 10
 -- no header name is a punctuator
 no_angle : (xs : List ℕ) → has 62 xs ≡ true → is_punct (60 ∷ xs) ≡ false
 no_angle xs there =
-    to_false _ (λ is. clash (not (has 62 xs)) (in_table (λ p. not (first_is (λ b. eqb b 60) p && has 62 p)) punctuators (60 ∷ xs) refl is) (ap not there))
+    false_from_ne_true _ (λ is. clash (not (has 62 xs)) (in_table (λ p. not (first_is (λ b. eqb b 60) p && has 62 p)) punctuators (60 ∷ xs) refl is) (ap not there))
 
 some_there : (x : ℕ) (xs : List ℕ) → has x xs ≡ true → is_one is_quote (34 ∷ xs) ≡ false
 some_there x [] is = cc

@@ -1,6 +1,7 @@
 -- The table of punctuators, filled up with zeros, is searched as the table itself.
 use Rattle.std.proofs.Common.{◌≡◌, ℕ, zero, suc, ◌+◌, ◌<◌, Bool, true, false, not, ◌&&◌, cond, eqb, List, [], ◌∷◌, length, get_or, drop, Option, Some, refl, sym, ◌∙◌, ap}
 use Rattle.std.proofs.lemmas.List.{drop_more}
+use Rattle.std.proofs.lemmas.Bool.{and_parts, not-true}
 use Rattle.std.specs.List.{find, list_all}
 use Rattle.std.specs.Option.{option_map}
 use Rattle.pp_tokens.specs.declared.punctuators.TheConstants.{PUNCTUATORS}
@@ -19,32 +20,24 @@ is_short n [] = true
 is_short zero (b ∷ bs) = false
 is_short (suc n) (b ∷ bs) = not (eqb b 0) && is_short n bs
 
-and_true : (a b : Bool) → (a && b) ≡ true → (a ≡ true) × (b ≡ true)
-and_true true b is = (refl, is)
-and_true false b is = cc
-
-not_true : (a : Bool) → not a ≡ true → a ≡ false
-not_true true is = cc
-not_true false is = refl
-
 fits_padded : (n : ℕ) (text bytes : List ℕ) → is_short n text ≡ true → fits (padded n text) (padded n bytes) ≡ begins text bytes
 fits_padded zero [] bytes short = refl
 fits_padded (suc n) [] bytes short = refl
 fits_padded zero (b ∷ bs) bytes short = cc
 fits_padded (suc n) (b ∷ bs) [] short =
-    let parts = and_true (not (eqb b 0)) (is_short n bs) short in
-    rw (not_true (eqb b 0) parts.0) refl
+    let parts = and_parts (not (eqb b 0)) (is_short n bs) short in
+    rw (not-true (eqb b 0) parts.0) refl
 fits_padded (suc n) (b ∷ bs) (c ∷ cs) short =
-    let parts = and_true (not (eqb b 0)) (is_short n bs) short in
-    rw (not_true (eqb b 0) parts.0, fits_padded n bs cs parts.1) refl
+    let parts = and_parts (not (eqb b 0)) (is_short n bs) short in
+    rw (not-true (eqb b 0) parts.0, fits_padded n bs cs parts.1) refl
 
 length_padded : (n : ℕ) (text : List ℕ) → is_short n text ≡ true → unpadded_length (padded n text) ≡ length text
 length_padded zero [] short = refl
 length_padded (suc n) [] short = refl
 length_padded zero (b ∷ bs) short = cc
 length_padded (suc n) (b ∷ bs) short =
-    let parts = and_true (not (eqb b 0)) (is_short n bs) short in
-    rw (not_true (eqb b 0) parts.0, length_padded n bs parts.1) refl
+    let parts = and_parts (not (eqb b 0)) (is_short n bs) short in
+    rw (not-true (eqb b 0) parts.0, length_padded n bs parts.1) refl
 
 all_padded : List (List ℕ) → List (List ℕ)
 all_padded [] = []
@@ -59,7 +52,7 @@ find_padded : (table : List (List ℕ)) (bytes : List ℕ) → list_all (is_shor
 unfolding all_padded
 find_padded [] bytes short = refl
 find_padded (t ∷ ts) bytes short =
-    let parts = and_true (is_short 4 t) (list_all (is_short 4) ts) short in
+    let parts = and_parts (is_short 4 t) (list_all (is_short 4) ts) short in
     rw (fits_padded 4 t bytes parts.0) (find_cases (begins t bytes) (padded 4 t) t _ _ (length_padded 4 t parts.0) (find_padded ts bytes parts.1))
 
 pub padded_four : (bytes : List ℕ) → padded 4 bytes ≡ byte_or_zero bytes ∷ byte_or_zero (drop 1 bytes) ∷ byte_or_zero (drop 2 bytes) ∷ byte_or_zero (drop 3 bytes) ∷ []

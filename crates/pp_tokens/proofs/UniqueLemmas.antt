@@ -1,7 +1,7 @@
 -- A text is cut in one way.
 use Rattle.std.proofs.Common.{◌≡◌, ℕ, ◌+◌, eqb, Bool, true, false, ◌&&◌, List, [], ◌∷◌, ◌++◌, length, take, drop, Option, Some, None, Ok, Err, refl, sym, ◌∙◌, ap, subst, append_assoc}
 use Rattle.std.proofs.lemmas.List.{take_at, drop_at}
-use Rattle.std.specs.Option.{unwrap_or, option_map}
+use Rattle.std.specs.Option.{option_map}
 use borrow.Author.Tests.{eqb-true}
 use Rattle.pp_tokens.specs.declared.fault.LexFault.{LexFault}
 use Rattle.pp_tokens.specs.declared.fault.LexFault.TheVariants.{NulByte, OpenComment, NoMemory}
@@ -12,8 +12,9 @@ use Rattle.pp_tokens.specs.declared.piece.PieceKind.TheVariants.{Comment}
 use Rattle.pp_tokens.specs.Cleaning.{Char, bytes_of, cleaned, on_line_one}
 use Rattle.pp_tokens.specs.Cut.{LinesSoFar, Piece, no_page, put, put_all, lines_of, chars_of, piece_at, header_may_stand, up_to_close, IsCut, IsOpen, line_of, Makes, LeavesOpen, IsFault}
 use Rattle.pp_tokens.specs.Laws.{CutIsUnique, IsAnswer, FileHasOneAnswer, TextHasOneAnswer}
+use Rattle.mac_base.proofs.Choices.{same_some, no_both}
 
--- the first piece of a cut, and the cut behind it
+-- the first piece of a cut, and the cut after it
 pub record Head (lines : Bool) (page : LinesSoFar) (chars : List Char) (p : Piece) (ps : List Piece) (rest : List Char) : Type 0 where
   pub stands : piece_at lines (header_may_stand page.tokens) (bytes_of chars) ≡ Some (p.what, length p.chars)
   pub front : p.chars ≡ take (length p.chars) chars
@@ -31,12 +32,9 @@ head_of lines page chars p ps rest cut =
       };
     }
 
--- no piece stands there
+-- no piece is there
 abbrev IsEnd : Bool → List Char → Type 0
 IsEnd lines rest = (header : Bool) → piece_at lines header (bytes_of rest) ≡ None
-
-same_some : {A : Type 0} (x y : A) → Some x ≡ Some y → x ≡ y
-same_some x y is = ap (λ o. unwrap_or o x) is
 
 same_piece : (p q : Piece) → ◌≡◌ {A = PieceKind × ℕ} (p.what, length p.chars) (q.what, length q.chars) → (chars : List Char) → p.chars ≡ take (length p.chars) chars → q.chars ≡ take (length q.chars) chars → p ≡ q
 same_piece p q same chars first second =
@@ -111,20 +109,17 @@ makes_or_opens lines page chars final line first second =
     no_open [] is open_here = cc
     no_open (c ∷ cs) is open_here = cc
 
-both_none : (o : Option ℕ) (line : ℕ) → o ≡ None → o ≡ Some line → ⊥
-both_none o line none some = cc
-
 fault_unique : (o : Option ℕ) (lines : Bool) (chars : List Char) (one other : LexFault) → IsAnswer {A = ℕ} (Err one) → IsAnswer {A = ℕ} (Err other) → IsFault o lines chars one → IsFault o lines chars other → one ≡ other
 fault_unique o lines chars (NulByte x) (NulByte y) a b first second = ap NulByte (same_some x y (sym first ∙ second))
-fault_unique o lines chars (NulByte x) (OpenComment y) a b first second = absurd (both_none o x second.0 first)
+fault_unique o lines chars (NulByte x) (OpenComment y) a b first second = absurd (no_both o x second.0 first)
 fault_unique o lines chars (NulByte x) NoMemory a b first second = absurd b
-fault_unique o lines chars (OpenComment x) (NulByte y) a b first second = absurd (both_none o y first.0 second)
+fault_unique o lines chars (OpenComment x) (NulByte y) a b first second = absurd (no_both o y first.0 second)
 fault_unique o lines chars (OpenComment x) (OpenComment y) a b first second = ap OpenComment (opens-unique lines no_page chars x y first.1 second.1)
 fault_unique o lines chars (OpenComment x) NoMemory a b first second = absurd b
 fault_unique o lines chars NoMemory other a b first second = absurd a
 
 no_fault : (o : Option ℕ) (lines : Bool) (chars : List Char) (final : LinesSoFar) (fault : LexFault) → IsAnswer {A = ℕ} (Err fault) → o ≡ None → Makes lines no_page chars final → IsFault o lines chars fault → ⊥
-no_fault o lines chars final (NulByte line) a none makes is = both_none o line none is
+no_fault o lines chars final (NulByte line) a none makes is = no_both o line none is
 no_fault o lines chars final (OpenComment line) a none makes is = makes_or_opens lines no_page chars final line makes is.1
 no_fault o lines chars final NoMemory a none makes is = a
 

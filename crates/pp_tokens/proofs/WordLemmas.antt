@@ -1,6 +1,7 @@
 -- The longest token that begins with a letter.
-use Rattle.std.proofs.Common.{◌≡◌, ℕ, zero, suc, ◌+◌, ◌-◌, ◌≤◌, ◌<◌, eqb, Bool, true, false, not, ◌&&◌, ◌||◌, cond, List, [], ◌∷◌, length, take, drop, Option, Some, None, refl, sym, ◌∙◌, ap, subst, arith, eq-eqb}
+use Rattle.std.proofs.Common.{◌≡◌, ℕ, zero, suc, ◌+◌, ◌-◌, ◌≤◌, ◌<◌, eqb, Bool, true, false, not, ◌&&◌, ◌||◌, cond, List, [], ◌∷◌, length, take, drop, Option, Some, None, refl, sym, ◌∙◌, ap, subst, arith}
 use Rattle.std.specs.List.{list_all, prefix_len}
+use Rattle.std.proofs.lemmas.Bool.{false_from_ne_true}
 use borrow.Author.Tests.{eqb-true}
 use lib.Chars.{codes}
 use Rattle.pp_tokens.specs.declared.token.Kind.{Kind}
@@ -8,8 +9,9 @@ use Rattle.pp_tokens.specs.declared.token.Kind.TheVariants.{Identifier, Char as 
 use Rattle.pp_tokens.specs.Kinds.{begins, same, is_digit, is_letter, is_word, is_quote, is_number_rest, first_is, is_closed, is_quoted, is_constant, is_char, is_str, kind_of}
 use Rattle.pp_tokens.specs.Cut.{longest}
 use Rattle.pp_tokens.specs.Scan.{quoted_length, quoted_kind, word_token, word_before, word_length, word_or, prefixed_length, is_prefix, is_prefix_letter}
-use Rattle.pp_tokens.proofs.KindLemmas.{kind-from, to_false, differs, differs_from, letter_no_digit, no_punct, is_that, that_itself}
-use Rattle.pp_tokens.proofs.LongestLemmas.{longest_cons, long_kind, nothing, char_that, str_that, and_same, or_same, quoted_some, past}
+use Rattle.pp_tokens.proofs.KindLemmas.{kind-from, differs, differs_from, letter_no_digit, no_punct, is_that, that_itself}
+use Rattle.pp_tokens.proofs.LongestLemmas.{longest_cons, long_kind, nothing, char_that, str_that, and_same, quoted_some, past}
+use Rattle.mac_base.proofs.TestLemmas.{or_false, and_false, same_tests, eqb_swapped}
 
 -- identifiers
 
@@ -39,7 +41,7 @@ letter_kind b rest i c s letter words char str =
     (ap (λ x. (x || (eqb b 46 && first_is is_digit rest)) && is_number_rest b rest) (letter_no_digit b letter) ∙ ap (λ x. (x && first_is is_digit rest) && is_number_rest b rest) (differs is_letter b 46 letter refl))
     char str (no_punct is_letter b rest letter refl) refl refl
 
--- a constant or literal of n bytes behind the word, or the word alone
+-- a constant or literal of n bytes after the word, or the word alone
 word_of : Kind → ℕ → Option ℕ → Kind × ℕ
 word_of kind word None = (Identifier, word)
 word_of kind word (Some n) = (kind, word + n)
@@ -71,14 +73,6 @@ word_longest b bs kind (Some (suc k)) letter fits longer_kinds =
     ∙ (let far : suc (v + suc k) ≡ suc v + suc k = omega arith in ap (λ n. Some (kind, n)) far)
 
 -- prefixes
-
-same_answer : (x y : Bool) → (x ≡ true → y ≡ true) → (y ≡ true → x ≡ true) → x ≡ y
-same_answer true y to from = sym (to refl)
-same_answer false true to from = from refl
-same_answer false false to from = refl
-
-eqb_turn : (a b : ℕ) → eqb a b ≡ eqb b a
-eqb_turn a b = same_answer (eqb a b) (eqb b a) (λ is. eq-eqb b a (sym (eqb-true a b is))) (λ is. eq-eqb a b (sym (eqb-true b a is)))
 
 chars_by : (z l s w x : Bool) → z ≡ false → (z || (((l && true) && x) || (((s && true) && x) || (((w && true) && x) || false)))) ≡ (((l || s) || w) && x)
 chars_by true l s w x is = cc
@@ -119,12 +113,12 @@ strs_by false false false false false x is = refl
 
 pub char_letter : (b : ℕ) (rest : List ℕ) → is_letter b ≡ true → is_char (b ∷ rest) ≡ (is_prefix_letter b && is_constant rest)
 char_letter b rest letter =
-    rw (eqb_turn 76 b, eqb_turn 117 b, eqb_turn 85 b) (chars_by (is_constant (b ∷ rest)) (eqb b 76) (eqb b 117) (eqb b 85) (is_constant rest)
+    rw (eqb_swapped 76 b, eqb_swapped 117 b, eqb_swapped 85 b) (chars_by (is_constant (b ∷ rest)) (eqb b 76) (eqb b 117) (eqb b 85) (is_constant rest)
     (ap (λ x. (x && is_closed 39 rest) && not (x && same rest (39 ∷ []))) (differs is_letter b 39 letter refl)))
 
 pub str_letter : (b : ℕ) (rest : List ℕ) → is_letter b ≡ true → is_str (b ∷ rest) ≡ (((eqb b 117 && begins (codes "8") rest) && is_quoted 34 (drop 1 rest)) || (is_prefix_letter b && is_quoted 34 rest))
 str_letter b rest letter =
-    rw (eqb_turn 76 b, eqb_turn 117 b, eqb_turn 85 b) (strs_by (is_quoted 34 (b ∷ rest)) (eqb b 76) (eqb b 117) (eqb b 85) ((eqb b 117 && begins (codes "8") rest) && is_quoted 34 (drop 1 rest)) (is_quoted 34 rest)
+    rw (eqb_swapped 76 b, eqb_swapped 117 b, eqb_swapped 85 b) (strs_by (is_quoted 34 (b ∷ rest)) (eqb b 76) (eqb b 117) (eqb b 85) ((eqb b 117 && begins (codes "8") rest) && is_quoted 34 (drop 1 rest)) (is_quoted 34 rest)
     (ap (λ x. x && is_closed 34 rest) (differs is_letter b 34 letter refl)))
 
 -- the kind of a text that runs past the word
@@ -147,7 +141,7 @@ letter_is_word b letter = ap (λ x. x || is_digit b) letter
 token_by : (b : ℕ) (bs : List ℕ) → is_letter b ≡ true → word_token (b ∷ bs) ≡ word_before (suc (prefix_len is_word bs)) (b ∷ bs) (drop (prefix_len is_word bs) bs)
 token_by b bs letter = ap (λ n. word_before n (b ∷ bs) (drop n (b ∷ bs))) (length_here (is_word b) b bs refl (letter_is_word b letter))
 
--- a quote directly behind one letter
+-- a quote directly after one letter
 
 at_39 : (cs : List ℕ) (m : ℕ) (p : Bool) → m ≤ length cs → cond (p && is_constant (39 ∷ take m cs)) (Some Constant) (cond (p && is_quoted 34 (39 ∷ take m cs)) (Some Str) None) ≡ cond (is_that (cond p (quoted_length 39 cs) None) (suc m)) (Some Constant) None
 at_39 cs m true within = ap (λ x. cond x (Some Constant) None) (char_that cs m within)
@@ -156,10 +150,6 @@ at_39 cs m false within = refl
 at_34 : (cs : List ℕ) (m : ℕ) (p : Bool) → m ≤ length cs → cond (p && is_constant (34 ∷ take m cs)) (Some Constant) (cond (p && is_quoted 34 (34 ∷ take m cs)) (Some Str) None) ≡ cond (is_that (cond p (quoted_length 34 cs) None) (suc m)) (Some Str) None
 at_34 cs m true within = ap (λ x. cond x (Some Str) None) (str_that cs m within)
 at_34 cs m false within = refl
-
-and_false : (x : Bool) → (x && false) ≡ false
-and_false true = refl
-and_false false = refl
 
 literal_by : (c : ℕ) (cs : List ℕ) (m : ℕ) (x y p : Bool) → eqb c 39 ≡ x → eqb c 34 ≡ y → m ≤ length cs →
     cond (p && is_constant (c ∷ take m cs)) (Some Constant) (cond (p && is_quoted 34 (c ∷ take m cs)) (Some Str) None) ≡ cond (is_that (cond ((x || y) && p) (quoted_length c cs) None) (suc m)) (Some (quoted_kind c)) None
@@ -278,7 +268,7 @@ no_prefix_by false false p true x y first second = refl
 no_prefix_by false false p false x y first second = refl
 
 not_same : (n m : ℕ) → m < n → eqb n m ≡ false
-not_same n m less = to_false (eqb n m) (λ is. let equal : n ≡ m = eqb-true n m is in absurd (omega arith))
+not_same n m less = false_from_ne_true (eqb n m) (λ is. let equal : n ≡ m = eqb-true n m is in absurd (omega arith))
 
 -- it isn't `u8`
 not_u8 : (b c : ℕ) (cs : List ℕ) → is_letter b ≡ true → is_word c ≡ true → (eqb b 117 && eqb 56 c) ≡ false → longest (b ∷ c ∷ cs) ≡ Some (word_token (b ∷ c ∷ cs))
@@ -288,7 +278,7 @@ not_u8 b c cs letter word other =
     plain_word b c cs letter word (λ i more within. second_false _ _ other)
     (alone w (b ∷ c ∷ cs) (drop (prefix_len is_word (c ∷ cs)) (c ∷ cs)) (λ q.
     no_prefix_by (eqb w 1) (eqb w 2) (is_prefix_letter b) (eqb q 34) (eqb b 117) (eqb c 56) (not_same w 1 (omega (arith, long)))
-    (ap (λ x. eqb w 2 && (eqb b 117 && x)) (eqb_turn c 56) ∙ ap (λ x. eqb w 2 && x) other ∙ and_false (eqb w 2))))
+    (ap (λ x. eqb w 2 && (eqb b 117 && x)) (eqb_swapped c 56) ∙ ap (λ x. eqb w 2 && x) other ∙ and_false (eqb w 2))))
 
 -- it is longer than `u8`
 beyond_u8 : (b c d : ℕ) (ds : List ℕ) → is_letter b ≡ true → is_word c ≡ true → is_word d ≡ true → longest (b ∷ c ∷ d ∷ ds) ≡ Some (word_token (b ∷ c ∷ d ∷ ds))
@@ -333,7 +323,7 @@ u8_behind d ds word =
     (λ i m is within.
     let far : i ≡ suc (suc m) = omega (arith, one) in
     ap (λ n. kind_of (117 ∷ take n (56 ∷ d ∷ ds))) far
-    ∙ past_word 117 (56 ∷ d ∷ ds) (suc (suc m)) false _ refl (omega (arith, one)) (omega (arith, far)) refl (or_same (is_quoted 34 (d ∷ take m ds)))
+    ∙ past_word 117 (56 ∷ d ∷ ds) (suc (suc m)) false _ refl (omega (arith, one)) (omega (arith, far)) refl (or_false (is_quoted 34 (d ∷ take m ds)))
     ∙ u8_quote d ds (eqb d 34) refl m (omega (arith, far)))
     ∙ ap (λ f. Some f) (
     ap (λ n. word_of Str (suc n) o) one

@@ -4,11 +4,11 @@ use thiserror::Error;
 #[derive(Clone, Copy, Debug, PartialEq, Eq, Error)]
 pub enum LexFault {
     /// A byte is 0, which this project rejects. `line` is the physical line of the first.
-    #[error("a byte 0 on line {line}")]
+    #[error("NulByte")]
     NulByte { line: u64 },
     /// A comment is not closed (C17 5.1.1.2 p1, phase 3). `line` is the physical line of its `/*`.
-    #[error("the comment of line {line} is not closed")]
+    #[error("OpenComment")]
     OpenComment { line: u64 },
-    #[error("out of memory")]
+    #[error("NoMemory")]
     NoMemory,
 }

@@ -1,6 +1,6 @@
 use Rattle.std.specs.List.{prefix_len}
 use Rattle.mac_base.specs.Names.{is_identifier_byte}
-use Rattle.macro_table.proofs.TableLemmas.{take_prefix}
+use Rattle.mac_base.proofs.TableLemmas.{take_prefix}
 use Rattle.macro_table.proofs.table.name_of.Goals as goal
 
 pub returns : goal.returns

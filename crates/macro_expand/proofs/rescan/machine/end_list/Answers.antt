@@ -1,19 +1,19 @@
 use Rattle.std.proofs.Common.{◌∙◌, sym, ap, refl, suc, map, Ok}
 use Rattle.std.proofs.lemmas.Result.{err_from_is_err_and}
+use Rattle.std.proofs.lemmas.List.{nil_from_length}
 use Rattle.macro_expand.specs.declared.substitution.argument_pass.Argument.{Argument as HeldArgument}
 use Rattle.macro_expand.specs.declared.rescan.machine.Frame.{Frame}
 use Rattle.macro_expand.specs.declared.rescan.machine.Machine.{Machine}
 use Rattle.macro_expand.specs.States.{marked}
 use Rattle.macro_expand.specs.Slots.{lists}
 use Rattle.macro_expand.specs.Machine.{meaning, replacing, replacing_size, size}
-use Rattle.macro_expand.proofs.PassLemmas.{none_left}
 use Rattle.macro_expand.proofs.Moves.{on_end, on_return, given_in, fault_as, goes_on_from}
 use Rattle.macro_expand.proofs.rescan.machine.end_list.Goals as goal
 
 pub returns-in_default-clause-ok : goal.returns-in_default-clause-ok
 returns-in_default-clause-ok c = λ macros here m h.
     let n : Machine = c.args.machine.now in
-    on_end macros here m (lists m.slots) refl (ap (λ v. v.items) (sym h.frames) ∙ none_left _ (sym n.frames.ok.0 ∙ c.in_default.ensures.cases.0)) h.head
+    on_end macros here m (lists m.slots) refl (ap (λ v. v.items) (sym h.frames) ∙ nil_from_length _ (sym n.frames.ok.0 ∙ c.in_default.ensures.cases.0)) h.head
     ∙ ap (λ v. Ok (map marked v.items, m.work)) (sym h.out) ∙ ap (λ w. Ok (map marked n.out.items, w)) (sym h.work)
 
 pub returns-in_err-advance-clause-err : goal.returns-in_err-advance-clause-err

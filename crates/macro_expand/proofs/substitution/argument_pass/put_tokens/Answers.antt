@@ -1,5 +1,6 @@
 use Rattle.std.proofs.lemmas.Result.{err_from_is_err_and}
-use Rattle.macro_expand.proofs.PassLemmas.{put_next, put_fails, put_end, none_left}
+use Rattle.std.proofs.lemmas.List.{nil_from_length}
+use Rattle.macro_expand.proofs.PassLemmas.{put_next, put_fails, put_end}
 use Rattle.macro_expand.proofs.substitution.argument_pass.put_tokens.Goals as goal
 
 pub returns-in_err-before : goal.returns-in_err-before
@@ -11,4 +12,4 @@ pub loop-token-preserved : goal.loop-token-preserved
 loop-token-preserved c = put_next _ _ _ c.loop-token.before c.in-Some.token.now c.in-Some.rest.now c.loop-token.left.now _ _ _ c.paste_follows-next.ensures c.in-Some.ensures.cases.0 c.loop-token.invariant _ c.in_ok-before.before c.in_ok-before.ensures
 
 pub returns : goal.returns
-returns c = put_end _ _ _ c.loop-token.before c.loop-token.left.now _ _ (none_left _ c.in_default.ensures.cases) c.loop-token.invariant
+returns c = put_end _ _ _ c.loop-token.before c.loop-token.left.now _ _ (nil_from_length _ c.in_default.ensures.cases) c.loop-token.invariant

@@ -2,7 +2,7 @@ use Rattle.std.proofs.Common.{◌≡◌, ℕ, List, ap, ◌∙◌}
 use Rattle.std.specs.FinMap as finite
 use Rattle.mac_base.specs.Names.{name_of}
 use Rattle.macro_table.specs.Tables.{entry_value, TableOf}
-use Rattle.macro_table.proofs.TableLemmas.{inserted}
+use Rattle.mac_base.proofs.TableLemmas.{inserted}
 use Rattle.macro_table.proofs.table.Table.define.Goals as goal
 
 pub returns-in-Ok-clause-ok : goal.returns-in-Ok-clause-ok

@@ -3,7 +3,7 @@ use Rattle.std.specs.Option.{option_map}
 use Rattle.std.specs.FinMap as finite
 use Rattle.macro_table.specs.Tables.{entry_value, TableOf}
 use Rattle.std.proofs.Common.{ℕ}
-use Rattle.macro_table.proofs.TableLemmas.{get_keyed}
+use Rattle.mac_base.proofs.TableLemmas.{get_keyed}
 use Rattle.macro_table.proofs.table.Table.get.Goals as goal
 
 pub returns : goal.returns

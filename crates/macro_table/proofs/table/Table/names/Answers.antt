@@ -4,7 +4,7 @@ use Rattle.std.specs.Map.Iter.{deref}
 use Rattle.std.proofs.lemmas.Map.Iter.{iter_end}
 use Rattle.std.specs.FinMap as finite
 use Rattle.macro_table.specs.Tables.{entry_value, TableOf}
-use Rattle.macro_table.proofs.TableLemmas.{names_keyed, map_behind}
+use Rattle.mac_base.proofs.TableLemmas.{names_keyed, map_behind}
 use Rattle.macro_table.proofs.table.Table.names.Goals as goal
 
 pub returns : goal.returns

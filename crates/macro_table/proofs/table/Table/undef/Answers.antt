@@ -1,7 +1,7 @@
 use Rattle.std.proofs.Common.{ℕ, ap, ◌∙◌}
 use Rattle.std.specs.FinMap as finite
 use Rattle.macro_table.specs.Tables.{entry_value, TableOf}
-use Rattle.macro_table.proofs.TableLemmas.{removed}
+use Rattle.mac_base.proofs.TableLemmas.{removed}
 use Rattle.macro_table.proofs.table.Table.undef.Goals as goal
 
 pub returns : goal.returns
