@@ -1,22 +1,10 @@
 -- Lemmas on the spelling of constants.
-use Rattle.std.proofs.Common.{Option, sym, eq-eqb, Bool, true, false, if◌then◌else◌, ◌==◌, ◌++◌, Some, refl, ap, ◌∙◌, None, ◌≡◌, ℕ, ◌+◌, ◌*◌, ◌<◌, ◌≤◌, List, [], ◌∷◌, arith}
+use Rattle.std.proofs.Common.{Option, sym, eq-eqb, Bool, true, false, if◌then◌else◌, ◌==◌, ◌++◌, Some, refl, ap, ◌∙◌, None, ◌≡◌, ℕ, suc, ◌+◌, ◌&&◌, List, [], ◌∷◌, take, arith}
+use Rattle.std.specs.Prelude.{IsTrue}
 use Rattle.std.proofs.lemmas.Bool.{ne_eqb}
-use Rattle.std.proofs.lemmas.Bool.Decides.{nat_tests}
 use Rattle.std.specs.Option.{option_map}
-use Rattle.pp_directives.specs.Constants.{digit_value, spelled_after, below, before_quote}
-
-grows : (n base d : ℕ) → 0 < base → n ≤ n * base + d
-grows n base d h = grind arith
-
--- digits only add to a number
-pub spelled_grows : (base n : ℕ) (ds : List ℕ) → 0 < base → n ≤ spelled_after base n ds
-spelled_grows base n [] h = omega arith
-spelled_grows base n (d ∷ ds) h =
-    let here = grows n base (digit_value d) h in let rest = spelled_grows base (n * base + digit_value d) ds h in omega arith
-
--- what is not below the limit leaves nothing that is
-pub none_below : (limit n m : ℕ) → below limit n ≡ None → n ≤ m → below limit m ≡ None
-none_below limit n m none h = grind (arith, nat_tests)
+use Rattle.std.specs.List.{list_all, prefix_len}
+use Rattle.pp_directives.specs.Constants.{before_quote}
 
 -- a byte after what comes before a byte
 chosen : (b : ℕ) (test : Bool) (front : List ℕ) → option_map (λ f. b ∷ f) (if test then Some front else None) ≡ (if test then Some (b ∷ front) else None)
@@ -36,3 +24,17 @@ before_quote-quote text front x e q =
 pub before_quote-other : (text front : List ℕ) (x : ℕ) → text ≡ front ++ x ∷ [] → (x ≡ 39 → ⊥) → ◌≡◌ {A = Option (List ℕ)} None (before_quote text)
 before_quote-other text front x e q =
     sym (ap before_quote e ∙ before_quote-append front x ∙ ap (λ test. if test then Some front else None) (ne_eqb x 39 q))
+
+-- the digits that come first are digits
+prefix_by : (p : ℕ → Bool) (x : ℕ) (xs : List ℕ) (t : Bool) → p x ≡ t → list_all p (take (prefix_len p xs) xs) ≡ true → list_all p (take (prefix_len p (x ∷ xs)) (x ∷ xs)) ≡ true
+prefix_by p x xs true is later =
+    let one_more : 1 + prefix_len p xs ≡ suc (prefix_len p xs) = omega arith in
+    rw is (ap (λ n. list_all p (take n (x ∷ xs))) one_more ∙ ap (λ t. t && list_all p (take (prefix_len p xs) xs)) is ∙ later)
+prefix_by p x xs false is later = rw is refl
+
+prefix_passes : (p : ℕ → Bool) (xs : List ℕ) → list_all p (take (prefix_len p xs) xs) ≡ true
+prefix_passes p [] = refl
+prefix_passes p (x ∷ xs) = prefix_by p x xs (p x) refl (prefix_passes p xs)
+
+pub prefix_is_true : (p : ℕ → Bool) (xs : List ℕ) (n : ℕ) → n ≡ prefix_len p xs → IsTrue (list_all p (take n xs))
+prefix_is_true p xs n is = ap (λ k. list_all p (take k xs)) is ∙ prefix_passes p xs

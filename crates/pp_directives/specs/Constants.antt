@@ -1,31 +1,11 @@
 -- The values of the constants of a condition: integer constants (C17 6.4.4.1) and character constants (6.4.4.4), as functions on their spelling.
-use Rattle.std.specs.Prelude.{ℕ, zero, suc, ◌+◌, ◌-◌, ◌*◌, ◌^◌, ◌==◌, nat_lt, nat_le, Bool, true, false, not, ◌&&◌, ◌||◌, if◌then◌else◌, List, [], ◌∷◌, length, take, drop, pos, Option, None, Some}
+use Rattle.std.specs.Prelude.{ℕ, zero, suc, ◌^◌, ◌==◌, nat_lt, nat_le, Bool, true, false, not, ◌&&◌, ◌||◌, if◌then◌else◌, List, [], ◌∷◌, length, take, drop, pos, Option, None, Some}
 use Rattle.std.specs.Int.{w8, cast_signed}
 use Rattle.std.specs.List.{list_all, prefix_len}
 use Rattle.std.specs.Option.{option_map, option_and_then}
+use Rattle.mac_base.specs.Digits.{is_digit_of, spelled_in}
 use Rattle.pp_directives.specs.declared.expression.number.Number.{Number}
 use Rattle.pp_directives.specs.declared.expression.number.Number.TheVariants.{Signed, Unsigned}
-
--- the value of `0` to `9`, `a` to `f` and `A` to `F`; 16, which no base has, for other bytes
-abbrev pub digit_value : ℕ → ℕ
-digit_value b =
-    if nat_le 48 b && nat_le b 57 then b - 48
-    else (if nat_le 97 b && nat_le b 102 then b - 87
-    else (if nat_le 65 b && nat_le b 70 then b - 55
-    else 16))
-
--- a digit of that base
-abbrev pub is_digit_of : ℕ → ℕ → Bool
-is_digit_of base b = nat_lt (digit_value b) base
-
--- the number that digits spell after a number
-abbrev pub spelled_after : ℕ → ℕ → List ℕ → ℕ
-spelled_after base n [] = n
-spelled_after base n (d ∷ ds) = spelled_after base (n * base + digit_value d) ds
-
--- the number that digits of that base spell
-abbrev pub spelled : ℕ → List ℕ → ℕ
-spelled base digits = spelled_after base 0 digits
 
 -- `u` or `U`
 abbrev pub is_u : ℕ → Bool
@@ -79,7 +59,7 @@ typed base with_u n =
 -- so many digits of that base, one at least, and a suffix
 abbrev pub integer : ℕ → ℕ → List ℕ → Option Number
 integer base zero text = None
-integer base (suc n) text = option_and_then (λ with_u. typed base with_u (spelled base (take (suc n) text))) (suffix_of (drop (suc n) text))
+integer base (suc n) text = option_and_then (λ with_u. typed base with_u (spelled_in base (take (suc n) text))) (suffix_of (drop (suc n) text))
 
 -- the longest prefix of digits of that base, and a suffix
 abbrev pub integer_of : ℕ → List ℕ → Option Number
@@ -105,7 +85,7 @@ simple_escape b =
 -- the number that digits of that base spell, if they are at least one
 abbrev pub digits_of : ℕ → List ℕ → Option ℕ
 digits_of base [] = None
-digits_of base (d ∷ ds) = if list_all (is_digit_of base) (d ∷ ds) then Some (spelled base (d ∷ ds)) else None
+digits_of base (d ∷ ds) = if list_all (is_digit_of base) (d ∷ ds) then Some (spelled_in base (d ∷ ds)) else None
 
 -- a simple escape sequence that nothing follows
 abbrev pub simple_alone : ℕ → List ℕ → Option ℕ

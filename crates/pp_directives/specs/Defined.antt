@@ -23,7 +23,7 @@ is_defined table name = is_built_in name || is_some (finite.get table name)
 abbrev pub truth : Token → Bool → Token
 truth t held = record { kind = Number; text = if held then codes "1" else codes "0"; space = t.space }
 
--- one token more, at the front of the list
+-- one token more, at the head of the list
 abbrev pub before : Token → Result (List Token) ExprFault → Result (List Token) ExprFault
 before t rest = rest >>= λ ts. Ok (t ∷ ts)
 

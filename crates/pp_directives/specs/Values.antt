@@ -1,9 +1,10 @@
 -- What a condition comes to: the value of a syntax tree (C17 6.5, 6.6), and from there true, false or a fault for a list of tokens (6.10.1 p3 and p4).
-use Rattle.std.specs.Prelude.{◌≡◌, ℕ, Bool, true, false, not, ◌||◌, if◌then◌else◌, List, [], ◌∷◌, Option, None, Some, Result, Ok, Err, bit_and, bit_or, bit_xor, pos}
+use Rattle.std.specs.Prelude.{◌≡◌, ℕ, Bool, true, false, not, ◌&&◌, ◌||◌, if◌then◌else◌, List, [], ◌∷◌, Option, None, Some, Result, Ok, Err, bit_and, bit_or, bit_xor, pos}
 use Rattle.std.specs.List.{list_any}
 use lib.Chars.{codes}
 use Rattle.mac_base.specs.Input.{◌>>=◌}
 use Rattle.pp_tokens.specs.Kinds.{same}
+use Rattle.pp_tokens.specs.Tokens.{is_identifier, is_spelled}
 use Rattle.pp_tokens.specs.declared.token.Token.{Token}
 use Rattle.pp_tokens.specs.declared.token.Kind.{Kind}
 use Rattle.pp_tokens.specs.declared.token.Kind.TheVariants.{Identifier, Number as NumberKind, Char, Punct}
@@ -156,13 +157,8 @@ symbols_of [] = Ok []
 symbols_of (t ∷ ts) = symbol_of t >>= λ s. symbols_of ts >>= λ rest. Ok (s ∷ rest)
 
 -- the operator `defined`, which is resolved before macros are expanded
-abbrev pub is_defined_by : Kind → List ℕ → Bool
-is_defined_by Identifier text = same text (codes "defined")
-is_defined_by _ text = false
-
--- the token is `defined`
 abbrev pub is_defined : Token → Bool
-is_defined t = is_defined_by t.kind t.text
+is_defined t = is_identifier t && is_spelled (codes "defined") t
 
 -- The symbols of a condition whose macros are expanded. A `defined` that is there came from a macro, which 6.10.1 p4 leaves undefined; to reject it is the project's own.
 abbrev pub condition_symbols : List Token → Result (List Symbol) ExprFault

@@ -6,7 +6,7 @@ ghost use Rattle.pp_directives.specs.declared.fault.ExprFault.TheVariants.{Synta
 ghost use Rattle.pp_directives.specs.Defined.{is_built_in, is_defined, truth, before, resolved, after_defined, after_parenthesis};
 
 use crate::fault::ExprFault;
-use crate::spelled::{is_identifier, is_spelled, is_text};
+use crate::spelled::is_text;
 use mac_base::{Bytes, NoMemory};
 use macro_table::Table;
 use pp_tokens::{Kind, Token, Tokens};
@@ -63,11 +63,11 @@ fn use_in_parentheses<'a>(tokens: &'a [Token]) -> Option<Use<'a>>
     let [name, rest @ ..] = tokens else {
         return None;
     };
-    if !is_identifier(name) {
+    if !name.is_identifier() {
         return None;
     }
     match rest {
-        [close, after @ ..] if is_spelled(b")", close) => Some(Use { name, after }),
+        [close, after @ ..] if close.is_spelled(b")") => Some(Use { name, after }),
         _ => None,
     }
 }
@@ -79,8 +79,8 @@ fn use_of<'a>(tokens: &'a [Token]) -> Option<Use<'a>>
     ensures less { IfSome result (λ found. length found.after.now < length tokens.now) }
 {
     match tokens {
-        [name, after @ ..] if is_identifier(name) => Some(Use { name, after }),
-        [open, after @ ..] if is_spelled(b"(", open) => use_in_parentheses(after),
+        [name, after @ ..] if name.is_identifier() => Some(Use { name, after }),
+        [open, after @ ..] if open.is_spelled(b"(") => use_in_parentheses(after),
         _ => None,
     }
 }
@@ -98,7 +98,7 @@ fn first_piece<'a>(
     let Some((token, after)) = tokens.split_first() else {
         return Ok(None);
     };
-    if !is_spelled(b"defined", token) {
+    if !token.is_spelled(b"defined") {
         return Ok(Some(Piece {
             token: token.copy()?,
             after,

@@ -10,28 +10,28 @@ use thiserror::Error;
 #[derive(Clone, Copy, Debug, PartialEq, Eq, Error)]
 pub enum ExprFault {
     /// It is no conditional expression, or `defined` has no name.
-    #[error("no conditional expression")]
+    #[error("Syntax")]
     Syntax,
     /// A signed result is outside 64 bits.
-    #[error("overflow")]
+    #[error("Overflow")]
     Overflow,
     /// A division by zero.
-    #[error("division by zero")]
+    #[error("ZeroDivisor")]
     ZeroDivisor,
     /// A shift by less than 0 or more than 63.
-    #[error("a bad count of a shift")]
+    #[error("BadShift")]
     BadShift,
     /// A number that is no integer constant, or too large.
-    #[error("a bad number")]
+    #[error("BadNumber")]
     BadNumber,
     /// A character constant without a value.
-    #[error("a bad character constant")]
+    #[error("BadChar")]
     BadChar,
     /// A `defined` that comes from a replacement.
-    #[error("defined in a replacement")]
+    #[error("DefinedFromMacro")]
     DefinedFromMacro,
     /// Memory ran out.
-    #[error("out of memory")]
+    #[error("NoMemory")]
     NoMemory,
 }
 
@@ -55,25 +55,25 @@ impl<T: Drop> From<AllocFailed<T>> for ExprFault {
 #[derive(Clone, Copy, Debug, PartialEq, Eq, Error)]
 pub enum StructFault {
     /// `#else` where no condition is open.
-    #[error("#else without #if")]
+    #[error("StrayElse")]
     StrayElse,
     /// `#elif` where no condition is open.
-    #[error("#elif without #if")]
+    #[error("StrayElif")]
     StrayElif,
     /// `#endif` where no condition is open.
-    #[error("#endif without #if")]
+    #[error("StrayEndif")]
     StrayEndif,
     /// A second `#else`.
-    #[error("#else after #else")]
+    #[error("ElseAfterElse")]
     ElseAfterElse,
     /// `#elif` after `#else`.
-    #[error("#elif after #else")]
+    #[error("ElifAfterElse")]
     ElifAfterElse,
     /// A condition that no `#endif` closes.
-    #[error("#if without #endif")]
+    #[error("OpenIf")]
     OpenIf,
     /// Memory ran out.
-    #[error("out of memory")]
+    #[error("NoMemory")]
     NoMemory,
 }
 

@@ -3,7 +3,6 @@ ghost use Rattle.pp_directives.specs.Directives.{first_name, directive_named, di
 
 use crate::directive::Directive;
 use crate::directive_name::{DirectiveName, word_of};
-use crate::spelled::{is_hash, is_identifier};
 use mac_base::{Bytes, NoMemory};
 use pp_tokens::{Line, Token};
 
@@ -12,7 +11,7 @@ pub fn directive_of(line: &Line) -> Result<Directive, NoMemory>
     ensures { IfOk result (λ directive. directive ≡ directive_of line.now.tokens) }
 {
     match line.tokens.as_slice() {
-        [hash, after @ ..] if is_hash(hash) => directive_after(after),
+        [hash, after @ ..] if hash.is_hash() => directive_after(after),
         _ => Ok(Directive::Text),
     }
 }
@@ -53,7 +52,7 @@ fn first_name(tokens: &[Token]) -> Result<Option<Bytes>, NoMemory>
     ensures { IfOk result (λ name. name ≡ first_name tokens.now) }
 {
     match tokens {
-        [first, ..] if is_identifier(first) => Ok(Some(first.text.copy()?)),
+        [first, ..] if first.is_identifier() => Ok(Some(first.text.copy()?)),
         _ => Ok(None),
     }
 }

@@ -18,7 +18,7 @@ use Rattle.std.proofs.lemmas.List.Sums.{fails_before_first, prefix_len-le-length
 use Rattle.std.proofs.lemmas.Slice.Eq.{bytes_eq-Decides}
 use Rattle.mac_io.specs.declared.headers.FileId.{FileId}
 use Rattle.pp_tokens.specs.Kinds.{same}
-use Rattle.macro_table.proofs.TableLemmas.{inserted}
+use Rattle.mac_base.proofs.TableLemmas.{inserted}
 use Rattle.pp_unit.specs.Seen.{number_or, same_file, with_path}
 use Rattle.pp_unit.specs.Recorded.{AreKnown, AreNumbered, file_of, pair_cmp, same_pair}
 

@@ -24,7 +24,6 @@ pub mod DefiningLemmas
 pub mod ComesLemmas
 pub mod OneGoodLemmas
 pub mod OneFindLemmas
-pub mod OneLexLemmas
 pub mod OnePartLemmas
 pub mod OnePlainLemmas
 pub mod OneWalkLemmas

@@ -1,6 +1,6 @@
 -- Marks that don't count for some chains, and what is left there of the look-up of a table.
 use Rattle.std.proofs.Common.{◌≡◌, ◌<◌, ◌≤◌, ℕ, suc, ◌+◌, Bool, true, false, cond, ◌&&◌, ◌||◌, List, [], ◌∷◌, ◌++◌, Some, None, Result, refl, sym, ap, ◌∙◌, subst, append_assoc, arith}
-use Rattle.std.proofs.lemmas.List.{append-nil}
+use Rattle.std.proofs.lemmas.List.{append-nil, append_cancel_left}
 use Rattle.std.proofs.lemmas.Cmp.{nat_list_eq_equiv}
 use Rattle.std.specs.Option.{option_map, ok_or}
 use Rattle.std.specs.List.{list_any, find, filter}
@@ -33,14 +33,9 @@ only chain rest = chain
 abbrev pub IsApart : List ℕ → (List ℕ → List ℕ) → Type 0
 IsApart d chains = (suffix rest : List ℕ) → same (d ++ suffix) (chains rest) ≡ false
 
--- lists that begin alike, and then differ
-same_front : (c d e : List ℕ) → c ++ d ≡ c ++ e → d ≡ e
-same_front [] d e is = is
-same_front (x ∷ c) d e is = same_front c d e cc
-
 head_differs : (c : List ℕ) (m n : ℕ) (suffix rest : List ℕ) → (m ≡ n → ⊥) → c ++ m ∷ suffix ≡ c ++ n ∷ rest → ⊥
 head_differs c m n suffix rest other is =
-    let tails : m ∷ suffix ≡ n ∷ rest = same_front c (m ∷ suffix) (n ∷ rest) is in
+    let tails : m ∷ suffix ≡ n ∷ rest = append_cancel_left c (m ∷ suffix) (n ∷ rest) is in
     other cc
 
 shorter : (c : List ℕ) (n : ℕ) (rest : List ℕ) → c ≡ c ++ n ∷ rest → ⊥

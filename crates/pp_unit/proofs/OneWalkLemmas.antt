@@ -12,6 +12,7 @@ use Rattle.pp_tokens.specs.declared.fault.LexFault.{LexFault}
 use Rattle.pp_tokens.specs.Cut.{LexesFile}
 use Rattle.pp_tokens.specs.Laws.{IsAnswer}
 use Rattle.pp_tokens.proofs.UniqueLemmas.{file-unique}
+use Rattle.pp_tokens.proofs.ExistLemmas.{file-lexed}
 use Rattle.mac_base.specs.Items.{End}
 use Rattle.pp_directives.specs.declared.directive.Directive.{Directive}
 use Rattle.pp_directives.specs.declared.directive.Directive.TheVariants.{Text, Null, If, Ifdef, Ifndef, Elif, Else, Endif, Include, Define, Undef, LineNumber, Error, Pragma, Unknown}
@@ -35,7 +36,6 @@ use Rattle.pp_unit.specs.Walk.{open_limit, outside, Walk}
 use Rattle.pp_unit.specs.WalkLaws.{TellFiles, IsOnFiles, IsPlain, HasOneOnFiles, WalkHasOneAnswer}
 use Rattle.pp_unit.proofs.OneGoodLemmas.{Good, One, equal_one, chosen_one, then_one, file_one}
 use Rattle.pp_unit.proofs.OnePartLemmas.{Free, FreeFault, Plain, PlainFault, placed_one, part_one, kept_good, added_good, started_good, all_commanded_good, question_one, header_one, directs_one}
-use Rattle.pp_unit.proofs.OneLexLemmas.{lexed}
 use Rattle.pp_unit.proofs.OneFindLemmas.{IsTold, all_one, reached_told, candidates_told, found, store_told}
 
 -- exactly one answer that is no failure of a store
@@ -176,7 +176,7 @@ module _ (stores : Stores) (tell : TellFiles stores) where
         }
 
     bytes_one : (bytes : List ℕ) (m : Marked) → Walked (WalksBytes stores left Inner open_file bytes m)
-    bytes_one bytes m = let lexes = lexed bytes in bytes_by bytes m lexes.0 lexes.1 lexes.2
+    bytes_one bytes m = let lexes = file-lexed bytes in bytes_by bytes m lexes.answer lexes.plain lexes.said
 
   -- files within files
   walks_one : (left : ℕ) → IsOneWalk (Walks stores (suc left))

@@ -14,10 +14,10 @@ use thiserror::Error;
 #[derive(Clone, Copy, Debug, PartialEq, Eq, Error)]
 pub enum DirectiveFault {
     /// No identifier follows `#ifdef`, `#ifndef` or `#undef`.
-    #[error("no name")]
+    #[error("NoName")]
     NoName,
     /// The name is no directive's.
-    #[error("an unknown directive")]
+    #[error("UnknownName")]
     UnknownName,
 }
 
@@ -25,57 +25,57 @@ pub enum DirectiveFault {
 #[derive(Debug, Drop, Error)]
 pub enum PpKind {
     /// A file or a word has no tokens.
-    #[error("{0}")]
+    #[error("Lex {0}")]
     Lex(LexFault),
     /// A macro definition is none.
-    #[error("{0}")]
+    #[error("Def {0}")]
     Def(DefFault),
     /// The name is predefined or built in (C17 6.10.8 p2).
-    #[error("a predefined name")]
+    #[error("Predefined {name}")]
     Predefined { name: Bytes },
     /// The name has another definition (6.10.3 p2).
-    #[error("another definition of a macro")]
+    #[error("Redefined {name}")]
     Redefined { name: Bytes },
     /// A directive is none of C17's.
-    #[error("{0}")]
+    #[error("Directive {0}")]
     Directive(DirectiveFault),
     /// A condition has no value.
-    #[error("{0}")]
+    #[error("Expr {0}")]
     Expr(ExprFault),
     /// Tokens have no expansion.
-    #[error("{0}")]
+    #[error("Expand {0}")]
     Expand(ExpandFault),
     /// The groups of a file are not nested.
-    #[error("{0}")]
+    #[error("Struct {0}")]
     Struct(StructFault),
     /// A file of this name is not found.
-    #[error("no such file")]
+    #[error("NoSuchFile {name}")]
     NoSuchFile { name: Bytes },
     /// An `#include` names no header (6.10.2).
-    #[error("not a header name")]
+    #[error("BadInclude")]
     BadInclude,
     /// 200 files are open.
-    #[error("too many open files")]
+    #[error("IncludeDepth")]
     IncludeDepth,
     /// A `#error` was reached.
-    #[error("#error")]
+    #[error("ErrorDirective")]
     ErrorDirective,
     /// A `#line` has no line number (6.10.4).
-    #[error("not a line number")]
+    #[error("BadLine")]
     BadLine,
     /// A source file of this name has more than 16,777,216 bytes.
-    #[error("a source file is too long")]
+    #[error("SourceTooLong {name}")]
     SourceTooLong { name: Bytes },
     /// There would be more than 4,194,304 events.
-    #[error("too many events")]
+    #[error("TooManyEvents")]
     TooManyEvents,
     /// The texts and names would have more than 268,435,456 bytes together.
-    #[error("too much text")]
+    #[error("TooMuchText")]
     TooMuchText,
     /// A store failed.
-    #[error("a store failed")]
+    #[error("StoreFault")]
     StoreFault,
-    #[error("out of memory")]
+    #[error("NoMemory")]
     NoMemory,
 }
 

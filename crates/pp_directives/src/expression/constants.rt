@@ -1,21 +1,11 @@
-ghost use Rattle.std.specs.Prelude.{◌≡◌, ℕ, ◌+◌, ◌*◌, ◌≤◌, ◌<◌, ◌^◌, length, drop, IfSome};
+ghost use Rattle.std.specs.Prelude.{◌≡◌, ℕ, ◌≤◌, ◌<◌, ◌^◌, length, drop, IfSome, IsTrue};
 ghost use Rattle.std.specs.List.{list_all, prefix_len};
 ghost use Rattle.std.specs.Option.{option_and_then, option_map};
-ghost use Rattle.pp_directives.specs.Constants.{digit_value, is_digit_of, spelled, below, is_u, is_l, is_ll, suffix_of, is_hexadecimal, has_zero, base_of, after_prefix, typed, integer_of, number_of, simple_escape, simple_alone, digits_of, escape, is_plain, plain_alone, element, before_quote, quoted, character_of};
+ghost use Rattle.mac_base.specs.Digits.{is_digit_of, spelled_in};
+ghost use Rattle.pp_directives.specs.Constants.{below, is_u, is_l, is_ll, suffix_of, is_hexadecimal, has_zero, base_of, after_prefix, typed, integer_of, number_of as number_said, simple_escape, simple_alone, digits_of, escape, is_plain, plain_alone, element, before_quote, quoted, character_of};
 
 use crate::expression::number::Number;
-
-/// The value of a digit of the bases up to 16, and 16 for other bytes.
-fn digit_value(byte: u8) -> u8
-    ensures { result ≡ digit_value byte }
-{
-    match byte {
-        b'0'..=b'9' => byte - 48,
-        b'a'..=b'f' => byte - 87,
-        b'A'..=b'F' => byte - 55,
-        _ => 16,
-    }
-}
+use mac_base::{digit_value, number_of};
 
 /// A digit of that base.
 fn is_digit_of(base: u8, byte: u8) -> bool
@@ -41,25 +31,13 @@ fn are_digits(base: u8, text: &[u8]) -> bool
     text.iter().all(|byte| is_digit_of(base, *byte))
 }
 
-/// A number and a digit after it, if that is below 2^64.
-fn with_digit(base: u8, before: u64, digit: u8) -> Option<u64>
-    ensures { result ≡ below (2 ^ 64) (before * base + digit_value digit) }
-{
-    before
-        .checked_mul(u64::from(base))?
-        .checked_add(u64::from(digit_value(digit)))
-}
-
 /// The number that digits of that base spell, if it is below 2^64.
 fn spelled(base: u8, digits: &[u8]) -> Option<u64>
-    requires { 0 < base }
-    ensures { result ≡ below (2 ^ 64) (spelled base digits.now) }
+    requires base { 0 < base }
+    requires digits { IsTrue (list_all (is_digit_of base) digits.now) }
+    ensures { result ≡ below (2 ^ 64) (spelled_in base digits.now) }
 {
-    let mut value = 0u64;
-    for digit in digits {
-        value = with_digit(base, value, *digit)?;
-    }
-    Some(value)
+    number_of(base, digits)
 }
 
 /// `u` or `U`.
@@ -128,7 +106,7 @@ fn integer(base: u8, text: &[u8]) -> Option<Number>
 
 /// The value of a number token, if it has one (C17 6.4.4.1).
 pub fn number(text: &[u8]) -> Option<Number>
-    ensures { result ≡ number_of text.now }
+    ensures { result ≡ number_said text.now }
 {
     match text {
         [b'0', b'x' | b'X', digits @ ..] => integer(16, digits),

@@ -71,7 +71,7 @@ fn symbol(token: &Token) -> Result<Symbol, ExprFault>
 fn is_defined(token: &Token) -> bool
     ensures { result ≡ is_defined token.now }
 {
-    token.kind == Kind::Identifier && token.text.as_slice() == b"defined".as_slice()
+    token.is_identifier() && token.is_spelled(b"defined")
 }
 
 /// Whether a `defined` is among the tokens.

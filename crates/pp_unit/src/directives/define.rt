@@ -1,7 +1,7 @@
 ghost use Rattle.std.specs.Prelude.{◌≡◌, Ok, IfOk};
-ghost use Rattle.std.specs.List.{list_any, list_all};
+ghost use Rattle.std.specs.List.{list_any};
 ghost use Rattle.std.specs.Option.{option_copied};
-ghost use Rattle.pp_tokens.specs.Kinds.{same, is_identifier, is_letter, is_word};
+ghost use Rattle.pp_tokens.specs.Kinds.{same};
 ghost use Rattle.mac_base.specs.Answers.{Answers};
 ghost use Rattle.macro_table.specs.Definitions.{def_of};
 ghost use Rattle.macro_table.specs.Texts.{def_of_text};
@@ -14,7 +14,7 @@ use crate::request::Command;
 use crate::spelled::is_text;
 use mac_base::{Bytes, NoMemory};
 use macro_table::{Def, DefFault, TextFault, def_of_text, parse_define, same, text_of};
-use pp_tokens::Token;
+use pp_tokens::{Token, is_identifier};
 use std::alloc::Global;
 
 /// Whether a name is neither defined nor undefined (C17 6.10.8 p2).
@@ -99,41 +99,6 @@ fn define_text(alloc: Global, word: &[u8]) -> Result<Vec<u8>, NoMemory>
     }
     text.extend_from_slice(b" 1")?;
     Ok(text)
-}
-
-/// Whether a word is one identifier.
-fn is_identifier(word: &[u8]) -> bool
-    ensures { result ≡ is_identifier word.now }
-{
-    match word {
-        [first, rest @ ..] => is_letter(*first) && are_words(rest),
-        [] => false,
-    }
-}
-
-/// Letters and digits.
-fn are_words(bytes: &[u8]) -> bool
-    ensures { result ≡ list_all is_word bytes.now }
-{
-    bytes.iter().all(|byte| is_word(*byte))
-}
-
-/// A letter, `_`, `$`, or a byte from 128 on.
-fn is_letter(byte: u8) -> bool
-    ensures { result ≡ is_letter byte }
-{
-    byte >= 65 && byte <= 90
-        || byte >= 97 && byte <= 122
-        || byte == b'_'
-        || byte == b'$'
-        || byte >= 128
-}
-
-/// A letter or a digit.
-fn is_word(byte: u8) -> bool
-    ensures { result ≡ is_word byte }
-{
-    is_letter(byte) || byte >= 48 && byte <= 57
 }
 
 /// A word of the command.

@@ -10,7 +10,6 @@ use crate::directives::line_number::follow_line;
 use crate::event_log::EventLog;
 use crate::fault::{DirectiveFault, PpKind};
 use crate::open_file::OpenFile;
-use crate::spelled::is_spelled;
 use mac_base::{Bytes, NoMemory};
 use pp_directives::Directive;
 use pp_tokens::{Line, Token, Tokens};
@@ -20,7 +19,7 @@ fn is_once_pragma(tokens: &[Token]) -> bool
     ensures { result ≡ is_once_pragma tokens.now }
 {
     match tokens {
-        [only] => is_spelled(b"once", only),
+        [only] => only.is_spelled(b"once"),
         _ => false,
     }
 }

@@ -12,7 +12,6 @@ use crate::directives::header::HeaderName;
 use crate::directives::line_number::is_plain_string;
 use crate::event_log::EventLog;
 use crate::fault::PpKind;
-use crate::spelled::is_spelled;
 use mac_base::{Bytes, NoMemory};
 use mac_io::Form;
 use macro_expand::Here;
@@ -66,7 +65,7 @@ fn close_at(tokens: &[Token]) -> usize
 {
     tokens
         .iter()
-        .take_while(|token| !is_spelled(b">", token))
+        .take_while(|token| !token.is_spelled(b">"))
         .count()
 }
 
@@ -74,7 +73,7 @@ fn close_at(tokens: &[Token]) -> usize
 fn has_close(tokens: &[Token]) -> bool
     ensures { result ≡ list_any is_close tokens.now }
 {
-    tokens.iter().any(|token| is_spelled(b">", token))
+    tokens.iter().any(|token| token.is_spelled(b">"))
 }
 
 /// The tokens before the first `>`.
@@ -132,7 +131,7 @@ fn spelled_name(alloc: Global, tokens: &[Token]) -> Result<HeaderName, PpKind>
         [only] if is_plain_string(only) => {
             named(alloc, Form::Quote, between(only.text.as_slice()))
         }
-        [first, second, ..] if is_spelled(b"<", first) => angle_named(alloc, &tokens[1..]),
+        [first, second, ..] if first.is_spelled(b"<") => angle_named(alloc, &tokens[1..]),
         _ => Err(PpKind::BadInclude),
     }
 }

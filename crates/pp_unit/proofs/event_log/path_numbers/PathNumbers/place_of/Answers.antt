@@ -1,7 +1,7 @@
 use Rattle.std.proofs.Common.{ℕ, List, ap, sym, ◌∙◌}
 use Rattle.std.specs.Prelude.{position}
 use Rattle.pp_tokens.specs.Kinds.{same}
-use Rattle.macro_table.proofs.TableLemmas.{get_keyed}
+use Rattle.mac_base.proofs.TableLemmas.{get_keyed}
 use Rattle.pp_unit.proofs.KnownLemmas.{number_alone}
 use Rattle.pp_unit.proofs.event_log.path_numbers.PathNumbers.place_of.Goals as goal
 
