@@ -2,7 +2,7 @@
 use Rattle.std.specs.Prelude.{◌≢◌, ℕ, ◌<◌, ◌^◌, Bool, List, [], ◌∷◌, ◌++◌}
 use Rattle.std.specs.List.{AllByRecursion}
 use Rattle.mac_base.specs.Values.{offset_width}
-use Rattle.mac_base.specs.Writing.{uleb_bytes, fixed_bytes}
+use Rattle.mac_base.specs.Writing.{uleb_bytes, offset_bytes, string_bytes}
 use Rattle.macro_opcodes.specs.declared.entry.OutEntry.{OutEntry}
 use Rattle.macro_opcodes.specs.declared.entry.OutEntry.TheVariants.{Define, Undef, Start, End, DefineStr, UndefStr, Import, DefineIndex, UndefIndex}
 use Rattle.macro_opcodes.specs.Entry.{None, File, Text, Str, Index, Macro, Entry}
@@ -54,10 +54,10 @@ shape_of (UndefIndex line index) = LineNumber line index
 -- the bytes of operands, where offsets have 8 bytes or 4
 abbrev pub shape_bytes : Bool → Shape → List ℕ
 shape_bytes wide Nothing = []
-shape_bytes wide (LineText line text) = uleb_bytes line ++ (text ++ 0 ∷ [])
+shape_bytes wide (LineText line text) = uleb_bytes line ++ string_bytes text
 shape_bytes wide (LineNumber line number) = uleb_bytes line ++ uleb_bytes number
-shape_bytes wide (LineOffset line offset) = uleb_bytes line ++ fixed_bytes (offset_width wide) offset
-shape_bytes wide (Offset offset) = fixed_bytes (offset_width wide) offset
+shape_bytes wide (LineOffset line offset) = uleb_bytes line ++ offset_bytes wide offset
+shape_bytes wide (Offset offset) = offset_bytes wide offset
 
 -- the bytes of an entry
 abbrev pub entry_bytes : Bool → OutEntry → List ℕ

@@ -1,11 +1,11 @@
 ghost use Rattle.std.specs.Prelude.{◌≡◌, ◌≢◌, ◌<◌, ◌^◌, ◌++◌, ◌∷◌, [], List, ℕ, take, length, OnOk, OnErr};
 ghost use Rattle.std.specs.List.{AllByRecursion};
 ghost use Rattle.mac_base.specs.Values.{offset_width};
-ghost use Rattle.mac_base.specs.Writing.{fixed_bytes, uleb_bytes};
+ghost use Rattle.mac_base.specs.Writing.{offset_bytes, string_bytes, uleb_bytes};
 ghost use Rattle.macro_opcodes.specs.Writing.{entry_bytes, opcode_of, shape_bytes, shape_of, Fits};
 
 use crate::entry::OutEntry;
-use mac_base::{NoMemory, push_fixed, push_uleb};
+use mac_base::{NoMemory, push_section_offset, push_string, push_uleb};
 
 /// Appends an entry of a macro unit (DWARF 5, 6.3.2), numbers in their shortest spelling, offsets in 8 bytes where `wide`
 /// is true and in 4 bytes else. Offsets have to fit, and texts have no NUL. After `NoMemory` the bytes are as before.
@@ -55,7 +55,7 @@ fn push_operands(into: &mut Vec<u8>, e: &OutEntry<'_>, wide: bool) -> Result<(),
         OutEntry::End => Ok(()),
         OutEntry::DefineStr { line, at } => push_line_offset(into, *line, *at, wide),
         OutEntry::UndefStr { line, at } => push_line_offset(into, *line, *at, wide),
-        OutEntry::Import { at } => push_offset(into, *at, wide),
+        OutEntry::Import { at } => push_section_offset(into, wide, *at),
         OutEntry::DefineIndex { line, index } => push_line_number(into, *line, *index),
         OutEntry::UndefIndex { line, index } => push_line_number(into, *line, *index),
     }
@@ -63,7 +63,7 @@ fn push_operands(into: &mut Vec<u8>, e: &OutEntry<'_>, wide: bool) -> Result<(),
 
 /// Appends a line, and a text with its NUL.
 fn push_line_text(into: &mut Vec<u8>, line: u64, text: &[u8]) -> Result<(), NoMemory>
-    ensures ok { OnOk result (into.new.items ≡ into.old.items ++ (uleb_bytes line ++ (text.now ++ 0 ∷ []))) }
+    ensures ok { OnOk result (into.new.items ≡ into.old.items ++ (uleb_bytes line ++ string_bytes text.now)) }
     ensures err { OnErr result (into.new.items ≡ into.old.items) }
 {
     let before = into.len();
@@ -73,22 +73,6 @@ fn push_line_text(into: &mut Vec<u8>, line: u64, text: &[u8]) -> Result<(), NoMe
         Err(fault) => {
             into.truncate(before);
             Err(fault)
-        }
-    }
-}
-
-/// Appends a text and its NUL.
-fn push_string(into: &mut Vec<u8>, text: &[u8]) -> Result<(), NoMemory>
-    ensures ok { OnOk result (into.new.items ≡ into.old.items ++ (text.now ++ 0 ∷ [])) }
-    ensures err { OnErr result (into.new.items ≡ into.old.items) }
-{
-    let before = into.len();
-    into.extend_from_slice(text)?;
-    match into.push(0) {
-        Ok(()) => Ok(()),
-        Err(_) => {
-            into.truncate(before);
-            Err(NoMemory)
         }
     }
 }
@@ -112,29 +96,16 @@ fn push_line_number(into: &mut Vec<u8>, line: u64, number: u64) -> Result<(), No
 /// Appends a line, and an offset.
 fn push_line_offset(into: &mut Vec<u8>, line: u64, offset: u64, wide: bool) -> Result<(), NoMemory>
     requires { offset < 256 ^ offset_width wide }
-    ensures ok { OnOk result (into.new.items ≡ into.old.items ++ (uleb_bytes line ++ fixed_bytes (offset_width wide) offset)) }
+    ensures ok { OnOk result (into.new.items ≡ into.old.items ++ (uleb_bytes line ++ offset_bytes wide offset)) }
     ensures err { OnErr result (into.new.items ≡ into.old.items) }
 {
     let before = into.len();
     push_uleb(into, line)?;
-    match push_offset(into, offset, wide) {
+    match push_section_offset(into, wide, offset) {
         Ok(()) => Ok(()),
         Err(fault) => {
             into.truncate(before);
             Err(fault)
         }
-    }
-}
-
-/// Appends an offset.
-fn push_offset(into: &mut Vec<u8>, offset: u64, wide: bool) -> Result<(), NoMemory>
-    requires { offset < 256 ^ offset_width wide }
-    ensures ok { OnOk result (into.new.items ≡ into.old.items ++ fixed_bytes (offset_width wide) offset) }
-    ensures err { OnErr result (into.new.items ≡ into.old.items) }
-{
-    if wide {
-        push_fixed(into, offset, 8)
-    } else {
-        push_fixed(into, offset, 4)
     }
 }

@@ -1,7 +1,7 @@
 -- An operand table that is gone over is spelled by its bytes, and one that is spelled is gone over.
-use Rattle.std.proofs.Common.{◌≡◌, ℕ, zero, suc, ◌<◌, ◌^◌, Bool, true, false, eqb, List, [], ◌∷◌, ◌++◌, length, Option, Some, None, Result, Ok, Err, refl, ap, subst, ◌∙◌, sym, eq-eqb}
-use Rattle.std.specs.Prelude.{◌&&◌}
+use Rattle.std.proofs.Common.{◌≡◌, ℕ, zero, suc, ◌<◌, ◌^◌, true, false, eqb, List, [], ◌∷◌, ◌++◌, length, Option, Some, None, Result, Ok, Err, refl, ap, subst, ◌∙◌, sym, eq-eqb}
 use Rattle.std.specs.List.{list_all}
+use Rattle.std.proofs.lemmas.Bool.{and_parts, and_from}
 use borrow.Author.Tests.{eqb-true}
 use Rattle.mac_base.specs.declared.cursor.CursorFault.{CursorFault}
 use Rattle.mac_base.specs.Input.{Input, ahead}
@@ -41,14 +41,6 @@ own_again at (own ∷ others) p q between =
     let parts = between_cut p q (own ∷ []) others between in
     rw (byte_at-again p (ahead p 1) own parts.0, eq-eqb own own refl) (own_again at others (ahead p 1) q parts.1)
 
-both_true : (a b : Bool) → a ≡ true → b ≡ true → (a && b) ≡ true
-both_true true b is also = also
-both_true false b is also = cc
-
-both_were : (a b : Bool) → (a && b) ≡ true → (a ≡ true) × (b ≡ true)
-both_were true b is = (refl, is)
-both_were false b is = cc
-
 known_takes : (n : ℕ) (p q : Input) → after_known n p ≡ Ok q → (codes : List ℕ) × Between p q codes × (length codes ≡ n) × (list_all is_macro_form codes ≡ true)
 known_takes zero p q is = ([], between_same p q (same_ok {E = UnitFault} p q is), refl, refl)
 known_takes (suc n) p q is =
@@ -56,13 +48,13 @@ known_takes (suc n) p q is =
     let fits = guarded (is_macro_form read.0.0) (after_known n read.0.1) q _ read.2 in
     let byte = byte_at-takes p read.0.1 read.0.0 (field_ok (number_at 1 p) read.0 read.1) in
     let more = known_takes n read.0.1 q fits.1 in
-    (read.0.0 ∷ more.0, between_both p read.0.1 q (read.0.0 ∷ []) more.0 byte more.1, ap suc more.2, both_true (is_macro_form read.0.0) _ fits.0 more.3)
+    (read.0.0 ∷ more.0, between_both p read.0.1 q (read.0.0 ∷ []) more.0 byte more.1, ap suc more.2, and_from (is_macro_form read.0.0) _ fits.0 more.3)
 
 known_again : (codes : List ℕ) (p q : Input) → Between p q codes → list_all is_macro_form codes ≡ true → after_known (length codes) p ≡ Ok q
 known_again [] p q between fit = ap (λ (z : Input). Ok z) (same_between p q between)
 known_again (code ∷ codes) p q between fit =
     let parts = between_cut p q (code ∷ []) codes between in
-    let fits = both_were (is_macro_form code) (list_all is_macro_form codes) fit in
+    let fits = and_parts (is_macro_form code) (list_all is_macro_form codes) fit in
     rw (byte_at-again p (ahead p 1) code parts.0, fits.0) (known_again codes (ahead p 1) q parts.1 fits.1)
 
 codes_takes : (at : ℕ) (own : Option (List ℕ)) (n : ℕ) (p q : Input) → after_codes at own n p ≡ Ok q → (codes : List ℕ) × Between p q codes × (length codes ≡ n) × CodesFit own codes

@@ -1,14 +1,14 @@
 -- The bytes that are written of the header of a macro unit (DWARF 5, 6.3.1): version 5, without an operand table.
 use Rattle.std.specs.Prelude.{ℕ, ◌<◌, ◌^◌, Bool, false, List, [], ◌∷◌, Option, Some, None, is_some}
 use Rattle.mac_base.specs.Values.{offset_width}
-use Rattle.mac_base.specs.Writing.{fixed_bytes}
+use Rattle.mac_base.specs.Writing.{offset_bytes}
 use Rattle.unit_header.specs.Header.{Header}
 use Rattle.unit_header.specs.Spelling.{flags_of}
 
 -- the offset of the line table, where there is one
 abbrev pub line_bytes : Bool → Option ℕ → List ℕ
 line_bytes wide None = []
-line_bytes wide (Some offset) = fixed_bytes (offset_width wide) offset
+line_bytes wide (Some offset) = offset_bytes wide offset
 
 -- the version in two bytes, the flags, and the offset of the line table
 abbrev pub header_bytes : Option ℕ → Bool → List ℕ

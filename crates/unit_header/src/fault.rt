@@ -8,64 +8,64 @@ use thiserror::Error;
 #[derive(Clone, Copy, Debug, PartialEq, Eq, Error)]
 pub enum UnitKind {
     /// The version is not 5.
-    #[error("the version is not 5")]
+    #[error("Version")]
     Version,
     /// Another flag than the three of DWARF 5 is set.
-    #[error("unknown flags")]
+    #[error("Flags")]
     Flags,
     /// The bytes end in the midst of a field.
-    #[error("a field is cut off")]
+    #[error("Cut")]
     Cut,
     /// A LEB128 number doesn't fit 64 bits.
-    #[error("a number doesn't fit 64 bits")]
+    #[error("Leb")]
     Leb,
     /// No NUL ends a string.
-    #[error("no NUL ends a string")]
+    #[error("NoNul")]
     NoNul,
     /// The operand table lists the opcode 0, an opcode twice, or a standard opcode with other forms.
-    #[error("an operand table that lists an opcode wrongly")]
+    #[error("OperandTable")]
     OperandTable,
     /// The operand table names a form that no macro entry has.
-    #[error("an unknown form")]
+    #[error("Form")]
     Form,
     /// The opcode is neither standard nor listed in the operand table.
-    #[error("an unknown opcode")]
+    #[error("Opcode")]
     Opcode,
     /// An offset of a string names none.
-    #[error("no string stands at an offset")]
+    #[error("StrRange")]
     StrRange,
     /// The offset of a macro unit is not inside the section.
-    #[error("no unit stands at an offset")]
+    #[error("ImportRange")]
     ImportRange,
     /// The offset of a macro unit's line table is not inside `.debug_line`.
-    #[error("no line table stands at an offset")]
+    #[error("LineRange")]
     LineRange,
     /// A string is named by an index, and the root has no base of string offsets.
-    #[error("there is no base of string offsets")]
+    #[error("NoStrBase")]
     NoStrBase,
     /// The index of a string is outside `.debug_str_offsets`.
-    #[error("the index of a string is out of range")]
+    #[error("StrxRange")]
     StrxRange,
     /// A file begins, and neither the macro unit nor the root has a line table.
-    #[error("there is no line table")]
+    #[error("NoLineTable")]
     NoLineTable,
     /// The index of a file is not below the number of the line table's files.
-    #[error("the line table has no such file")]
+    #[error("FileIndex")]
     FileIndex,
     /// A macro unit imports one that it is imported by, or itself.
-    #[error("a unit imports itself")]
+    #[error("ImportCycle")]
     ImportCycle,
     /// A file ends, and none is open in the macro unit.
-    #[error("a file ends that did not begin")]
+    #[error("EndWithoutStart")]
     EndWithoutStart,
     /// A macro unit ends, and a file is open in it.
-    #[error("a file does not end")]
+    #[error("StartWithoutEnd")]
     StartWithoutEnd,
     /// An entry refers to a supplementary file.
-    #[error("a supplementary file is not read")]
+    #[error("Supplementary")]
     Supplementary,
     /// With imported macro units in their places there are more than 16,777,216 entries.
-    #[error("there are too many entries")]
+    #[error("TooManyEntries")]
     TooManyEntries,
 }
 

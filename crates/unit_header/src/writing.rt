@@ -2,7 +2,7 @@ ghost use Rattle.std.specs.Prelude.{◌≡◌, ◌++◌, false, OnOk, OnErr};
 ghost use Rattle.unit_header.specs.Spelling.{flags_of};
 ghost use Rattle.unit_header.specs.Writing.{FitsWidth, header_bytes, line_bytes};
 
-use mac_base::{NoMemory, push_fixed};
+use mac_base::{NoMemory, push_section_offset};
 
 /// Appends the header of a macro unit (DWARF 5, 6.3.1): version 5, no operand table, offsets of 8 bytes where `wide` is
 /// true and of 4 bytes else, and the offset of the line table where there is one, which has to fit. After `NoMemory` the
@@ -43,7 +43,6 @@ fn push_line(into: &mut Vec<u8>, line: Option<u64>, wide: bool) -> Result<(), No
 {
     match line {
         None => Ok(()),
-        Some(offset) if wide => push_fixed(into, offset, 8),
-        Some(offset) => push_fixed(into, offset, 4),
+        Some(offset) => push_section_offset(into, wide, offset),
     }
 }
