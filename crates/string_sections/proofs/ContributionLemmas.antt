@@ -1,17 +1,16 @@
 -- The entries of a contribution are found, and what is written of one is spelled.
-use Rattle.std.proofs.Common.{◌≡◌, ℕ, zero, suc, ◌+◌, ◌*◌, ◌<◌, ◌≤◌, ◌^◌, Bool, true, false, leb, List, [], ◌∷◌, ◌++◌, length, take, drop, Some, None, refl, ap, subst, ◌∙◌, sym, arith, append_assoc, append-nil, length-append, lit<}
-use Rattle.std.specs.Prelude.{IsTrue, ◌||◌, nat_lt, replicate, slice_get}
+use Rattle.std.proofs.Common.{◌≡◌, ℕ, zero, suc, ◌+◌, ◌*◌, ◌<◌, ◌≤◌, Bool, true, false, List, [], ◌∷◌, ◌++◌, length, take, drop, Some, refl, ap, subst, ◌∙◌, sym, arith, append_assoc, length-append}
+use Rattle.std.specs.Prelude.{replicate, slice_get}
 use Rattle.std.proofs.lemmas.List.{take_at, drop_at, drop-drop, length-replicate, replicate-append-replicate}
 use Rattle.std.proofs.Math.Nat.{suc-mul}
-use borrow.Author.Tests.{ltb-true, le-leb}
+use borrow.Author.Tests.{le-leb}
 use Rattle.mac_base.specs.Fields.{little_endian}
-use Rattle.mac_base.specs.Spelling.{IsFixed}
 use Rattle.mac_base.specs.LengthSpelling.{IsLength}
-use Rattle.mac_base.specs.Writing.{fixed_bytes}
+use Rattle.mac_base.specs.Writing.{length_bytes}
 use Rattle.mac_base.proofs.Choices.{same_some}
-use Rattle.mac_base.proofs.WritingLemmas.{fixed_spelled}
+use Rattle.mac_base.proofs.WritingLemmas.{length_spelled}
 use Rattle.string_sections.specs.Offsets.{entry_width, number_of, offset_of}
-use Rattle.string_sections.specs.Contributions.{AreEntries, IsContribution, header_size, length_bytes, header_bytes, offsets_bytes}
+use Rattle.string_sections.specs.Contributions.{AreEntries, IsContribution, header_size, header_bytes, offsets_bytes}
 
 -- an entry of these, whatever follows them
 record EntryThere (width : ℕ) (entries after : List ℕ) (place offset : ℕ) : Type 0 where
@@ -72,14 +71,6 @@ spelled_found wide section before bytes after offsets parts is index offset ther
     sym (drop-drop (index * width) base section) ∙ ap (λ (xs : List ℕ). drop (index * width) (drop base xs)) whole ∙ ap (drop (index * width)) (drop_at front (is.entries ++ after) base front_long) in
     let within : base + index * width + width ≤ length section = omega (arith, entry.within, ap length whole, length-append front (is.entries ++ after), length-append is.entries after, front_long) in
     found_by section width (base + index * width) offset within (ap (λ (xs : List ℕ). little_endian (take width xs)) passed ∙ entry.number)
-
-below_fixed : (n : ℕ) → n < 0xffff_fff0 → (n < 256 ^ 4) × (n < 256 ^ 8)
-below_fixed n small = (omega arith, omega arith)
-
--- what is written of a length spells it
-pub length_spelled : (wide : Bool) (n : ℕ) → n < 0xffff_fff0 → IsLength wide (length_bytes wide n) n
-length_spelled false n small = (fixed_spelled 4 n (below_fixed n small).0, small)
-length_spelled true n small = (fixed_bytes 4 0xffff_ffff, fixed_bytes 8 n, refl {a = fixed_bytes 4 0xffff_ffff ++ fixed_bytes 8 n}, fixed_spelled 4 0xffff_ffff (lit< tt), fixed_spelled 8 n (below_fixed n small).1)
 
 zeros : (n : ℕ) → little_endian (replicate n 0) ≡ 0
 zeros zero = refl

@@ -1,1 +1,3 @@
 pub mod ContributionLemmas
+pub mod PoolLemmas
+pub mod PoolLawLemmas

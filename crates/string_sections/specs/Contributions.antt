@@ -2,7 +2,7 @@
 use Rattle.std.specs.Prelude.{◌≡◌, ℕ, ◌+◌, ◌*◌, Bool, if◌then◌else◌, List, [], ◌∷◌, ◌++◌, length, replicate}
 use Rattle.mac_base.specs.Spelling.{IsFixed}
 use Rattle.mac_base.specs.LengthSpelling.{IsLength}
-use Rattle.mac_base.specs.Writing.{fixed_bytes}
+use Rattle.mac_base.specs.Writing.{length_bytes}
 use Rattle.string_sections.specs.Offsets.{entry_width}
 
 -- the bytes spell these offsets, each in so many bytes
@@ -21,10 +21,6 @@ pub record IsContribution (wide : Bool) (bytes offsets : List ℕ) : Type 0 wher
 -- the bytes before the entries of a contribution
 abbrev pub header_size : Bool → ℕ
 header_size wide = if wide then 16 else 8
-
--- the bytes that are written of a unit's length (7.4)
-abbrev pub length_bytes : Bool → ℕ → List ℕ
-length_bytes wide n = if wide then fixed_bytes 4 0xffff_ffff ++ fixed_bytes 8 n else fixed_bytes 4 n
 
 -- the bytes that are written before entries of so many bytes
 unfoldable pub header_bytes : Bool → ℕ → List ℕ

@@ -4,6 +4,6 @@ use thiserror::Error;
 #[derive(Clone, Copy, Debug, PartialEq, Eq, Error)]
 pub enum StrFault {
     /// The place is not inside the section, or what begins there doesn't end in it.
-    #[error("out of the section's range")]
+    #[error("Range")]
     Range,
 }

@@ -1,4 +1,4 @@
-use crate::{OffsetsView, StrFault, Strings, string_at, write_offsets};
+use crate::{OffsetsView, StrFault, StrPool, Strings, string_at, write_offsets};
 use std::test::Fail;
 
 #[test]
@@ -55,5 +55,36 @@ fn written_offsets_are_zero(rt: HostRuntime) -> Result<(), Fail> {
         b"\x0c\0\0\0\x05\0\0\0\0\0\0\0\0\0\0\0\xff\xff\xff\xff\x0c\0\0\0\0\0\0\0\x05\0\0\0\0\0\0\0\0\0\0\0".as_slice()
     );
     assert_eq!(rt; OffsetsView::new(bytes.as_slice(), true).at(32, 0), Ok(0));
+    Ok(())
+}
+
+#[test]
+fn equal_strings_share_an_offset(rt: HostRuntime) -> Result<(), Fail> {
+    let mut pool = StrPool::new(rt.alloc());
+    let added: [&[u8]; 8] = [b"A 1", b"", b"A 10", b"A", b"A 1", b"", b"1", b"A 10"];
+    let offsets = [0, 4, 5, 10, 0, 4, 12, 5];
+    for (text, offset) in added.iter().zip(offsets.iter()) {
+        assert!(rt; pool.add(text).is_ok_and(|found| found == *offset));
+    }
+    assert_eq!(rt; pool.count(), 5);
+    assert_eq!(rt;
+        pool.bytes()?.as_slice(),
+        b"A 1\0\0A 10\0A\x001\0".as_slice()
+    );
+    assert_eq!(rt;
+        pool.into_bytes().as_slice(),
+        b"A 1\0\0A 10\0A\x001\0".as_slice()
+    );
+    Ok(())
+}
+
+#[test]
+fn new_pool_is_empty(rt: HostRuntime) -> Result<(), Fail> {
+    let mut pool = StrPool::new(rt.alloc());
+    assert_eq!(rt; pool.count(), 0);
+    assert_eq!(rt; pool.bytes()?.len(), 0);
+    assert!(rt; pool.add(b"").is_ok_and(|found| found == 0));
+    assert_eq!(rt; pool.count(), 1);
+    assert_eq!(rt; pool.bytes()?.as_slice(), b"\0".as_slice());
     Ok(())
 }

@@ -1,24 +1,8 @@
-ghost use Rattle.std.specs.Prelude.{◌≡◌, ◌≤◌, ◌<◌, ◌^◌, ◌||◌, ◌++◌, nat_lt, replicate, IsTrue, IfOk, OnOk, OnErr};
-ghost use Rattle.string_sections.specs.Contributions.{length_bytes, header_bytes, offsets_bytes};
+ghost use Rattle.std.specs.Prelude.{◌≡◌, ◌≤◌, ◌<◌, ◌++◌, replicate, IfOk, OnOk, OnErr};
+ghost use Rattle.string_sections.specs.Contributions.{header_bytes, offsets_bytes};
 
-use mac_base::{NoMemory, push_fixed};
+use mac_base::{NoMemory, push_length};
 use std::alloc::Global;
-
-/// Appends the length of a unit (DWARF 5, 7.4): four bytes, or ffffffff and eight bytes in the 64-bit format. After
-/// `NoMemory` a part of it may be there.
-pub fn push_length(into: &mut Vec<u8>, wide: bool, length: u64) -> Result<(), NoMemory>
-    requires { IsTrue (wide || nat_lt length 0xffff_fff0) }
-    ensures { OnOk result (into.new.items ≡ into.old.items ++ length_bytes wide length) }
-{
-    if wide {
-        push_fixed(into, 0xffff_ffff, 4)?;
-        push_fixed(into, length, 8)?;
-        Ok(())
-    } else {
-        push_fixed(into, length, 4)?;
-        Ok(())
-    }
-}
 
 /// Appends a contribution of string offsets (DWARF 5, 7.26) with `count` entries of four bytes, or of eight in the 64-bit
 /// format: its header, and 0 for each entry. After `NoMemory` the bytes are as before.
