@@ -1,8 +1,8 @@
 -- What follows the length of a line table is spelled by its bytes where it is read, and read where it is spelled.
-use Rattle.std.proofs.Common.{◌≡◌, ◌⊎◌, ℕ, zero, suc, ◌-◌, ◌<◌, Bool, true, false, eqb, cond, List, [], ◌∷◌, ◌++◌, length, map, None, Some, Result, Ok, Err, inl, inr, refl, ap, subst, ◌∙◌, sym, arith, append_assoc}
+use Rattle.std.proofs.Common.{◌≡◌, ◌⊎◌, ℕ, zero, suc, ◌-◌, ◌<◌, Bool, false, eqb, List, [], ◌∷◌, ◌++◌, length, map, None, Some, Ok, refl, ap, subst, ◌∙◌, sym, arith, append_assoc}
 use borrow.Author.Tests.{eqb-true, eqb-false, apart_eqb}
 use Rattle.std.proofs.lemmas.List.{length-map}
-use Rattle.mac_base.specs.Input.{Input, rest, ahead, ◌>>=◌}
+use Rattle.mac_base.specs.Input.{Input, rest, ahead}
 use Rattle.mac_base.specs.Fields.{number_at, little_endian}
 use Rattle.mac_base.specs.Spelling.{Between}
 use Rattle.mac_base.specs.Values.{offset_at, offset_width}
@@ -18,11 +18,10 @@ use Rattle.line_names.specs.Faults.{field, fault_at}
 use Rattle.line_names.specs.Header.{bytes_passed, opcodes_at, fields_at, header_at}
 use Rattle.line_names.specs.Entries.{Tables, Entry}
 use Rattle.line_names.specs.Files.{for_directories, path_in, directories_at, paths_at, unit_at}
-use Rattle.line_names.specs.Spelling.{StringSections, IsEntryList, IsHeader, HaveDirectories, paths_of, IsBody}
+use Rattle.line_names.specs.Spelling.{IsEntryList, IsHeader, HaveDirectories, IsBody}
 use Rattle.line_names.specs.Laws.{strings_in}
 use Rattle.line_names.proofs.Steps.{field_ok, between_same, none_between}
-use Rattle.line_names.proofs.EntryLemmas.{InRange}
-use Rattle.line_names.proofs.ListLemmas.{AreInRange, TookList, list_at, list_takes, list_again}
+use Rattle.line_names.proofs.ListLemmas.{AreInRange, TookList, list_takes, list_again}
 
 passed_takes : (n : ℕ) (p q : Input) → bytes_passed n p ≡ Ok q → (bytes : List ℕ) × Between p q bytes × (length bytes ≡ n)
 passed_takes zero p q is = ([], between_same p q (same_ok {E = CursorFault} p q is), refl)

@@ -1,9 +1,8 @@
 -- An entry that is read is spelled by its bytes, and one that is spelled is read.
-use Rattle.std.proofs.Common.{◌≡◌, ◌⊎◌, ℕ, zero, suc, ◌<◌, Bool, true, false, eqb, ltb, cond, List, [], ◌∷◌, ◌++◌, length, map, Option, Some, None, Result, Ok, Err, inl, inr, refl, ap, subst, ◌∙◌, sym, arith}
-use Rattle.std.specs.Prelude.{◌||◌, unwrap_or}
-use Rattle.std.proofs.lemmas.List.Folds.{list_any-append}
-use borrow.Author.Tests.{eqb-true, eqb-false, ltb-true, lt-ltb}
-use Rattle.mac_base.specs.Input.{Input, ahead, ◌>>=◌}
+use Rattle.std.proofs.Common.{◌≡◌, ◌⊎◌, ℕ, ◌<◌, Bool, true, false, eqb, ltb, cond, List, [], ◌∷◌, ◌++◌, length, map, Option, Some, None, Result, Ok, inl, inr, refl, ap, subst, ◌∙◌, sym}
+use Rattle.std.specs.Prelude.{◌||◌}
+use borrow.Author.Tests.{eqb-true, ltb-true, lt-ltb}
+use Rattle.mac_base.specs.Input.{Input, ahead}
 use Rattle.mac_base.specs.Spelling.{Between}
 use Rattle.mac_base.specs.declared.form.Form.{Form}
 use Rattle.mac_base.specs.declared.form.Form.TheVariants.{String, Strp, LineStrp, Udata, Data1, Data2}
@@ -18,7 +17,6 @@ use Rattle.string_sections.specs.Strings.{string_of}
 use Rattle.line_names.specs.declared.fault.LineFault.{LineFault}
 use Rattle.line_names.specs.declared.format.Role.{Role}
 use Rattle.line_names.specs.declared.format.Role.TheVariants.{Path, Directory, Other}
-use Rattle.line_names.specs.declared.format.Content.{Content}
 use Rattle.line_names.specs.declared.entry.Measures.{Measures}
 use Rattle.line_names.specs.Faults.{field}
 use Rattle.line_names.specs.Format.{form_fits, form_names, form_counts}

@@ -1,5 +1,5 @@
 -- A list of entries that is read is spelled by its bytes, and one that is spelled is read.
-use Rattle.std.proofs.Common.{◌≡◌, ◌⊎◌, ℕ, zero, suc, ◌<◌, ◌^◌, Bool, true, false, eqb, cond, List, [], ◌∷◌, ◌++◌, length, map, Option, Some, None, Result, Ok, Err, inl, inr, refl, ap, subst, ◌∙◌, sym, arith}
+use Rattle.std.proofs.Common.{◌≡◌, ℕ, zero, suc, ◌<◌, ◌^◌, Bool, true, false, eqb, cond, List, [], ◌∷◌, ◌++◌, length, map, Option, Some, None, Result, Ok, inl, refl, ap, subst, ◌∙◌, sym, arith}
 use Rattle.std.specs.Prelude.{◌||◌}
 use borrow.Author.Tests.{apart_eqb}
 use Rattle.mac_base.specs.Input.{Input, ahead, ◌>>=◌}
@@ -13,10 +13,10 @@ use Rattle.line_names.specs.declared.format.Role.TheVariants.{Path}
 use Rattle.line_names.specs.declared.format.Content.{Content}
 use Rattle.line_names.specs.declared.entry.Measures.{Measures}
 use Rattle.line_names.specs.Faults.{field}
-use Rattle.line_names.specs.Format.{has_role, contents_at, format_at}
+use Rattle.line_names.specs.Format.{has_role, format_at}
 use Rattle.line_names.specs.Entries.{Tables, Entry, no_entry, entry_at}
 use Rattle.line_names.specs.Files.{repeat_at, count_at}
-use Rattle.line_names.specs.Spelling.{Pair, IsPair, Field, IsField, AreEach, StringSections, IsPath, IsDirectoryIndex, first_of_type, lists_type, IsEntry, IsEntryList}
+use Rattle.line_names.specs.Spelling.{Pair, Field, AreEach, StringSections, IsPath, IsDirectoryIndex, first_of_type, lists_type, IsEntry, IsEntryList}
 use Rattle.line_names.specs.Laws.{strings_in}
 use Rattle.line_names.proofs.Steps.{field_ok, between_same, Took, TookEach, repeat_takes, repeat_again}
 use Rattle.line_names.proofs.PairLemmas.{contents_of, AreFitting, has_path, allowed_from, fitting_from, pairs_take, pairs_again}

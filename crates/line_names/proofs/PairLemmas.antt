@@ -1,11 +1,10 @@
 -- A format that is read is spelled by its bytes, and one that is spelled is read.
-use Rattle.std.proofs.Common.{◌≡◌, ℕ, zero, suc, ◌<◌, ◌^◌, Bool, true, false, eqb, cond, List, [], ◌∷◌, ◌++◌, length, Option, Some, None, Result, Ok, Err, refl, ap, subst, ◌∙◌, sym, arith, append_assoc, append-nil}
-use Rattle.std.specs.Prelude.{◌||◌, IsTrue, ◌==◌, if◌then◌else◌}
-use Rattle.std.specs.List.{list_any}
+use Rattle.std.proofs.Common.{◌≡◌, ℕ, zero, suc, Bool, true, false, eqb, cond, List, [], ◌∷◌, ◌++◌, length, Option, Some, None, Ok, refl, ap, subst, ◌∙◌, sym, append_assoc, append-nil}
+use Rattle.std.specs.Prelude.{◌||◌}
 use Rattle.std.proofs.lemmas.List.Folds.{list_any-append}
 use borrow.Author.Tests.{eqb-true}
-use Rattle.mac_base.specs.Input.{Input, ahead, ◌>>=◌}
-use Rattle.mac_base.specs.Fields.{uleb_at, number_at}
+use Rattle.mac_base.specs.Input.{Input, ahead}
+use Rattle.mac_base.specs.Fields.{uleb_at}
 use Rattle.mac_base.specs.Spelling.{Between}
 use Rattle.mac_base.specs.declared.form.Form.{Form}
 use Rattle.mac_base.specs.Forms.{form_by_code}

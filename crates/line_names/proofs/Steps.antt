@@ -1,7 +1,7 @@
 -- Items that are read one after another are spelled one after another.
 use Rattle.std.proofs.Common.{◌≡◌, ℕ, zero, suc, List, [], ◌∷◌, ◌++◌, length, map, Result, Ok, Err, refl, ap, subst, ◌∙◌, sym}
 use Rattle.mac_base.specs.declared.cursor.CursorFault.{CursorFault}
-use Rattle.mac_base.specs.Input.{Input, ahead, ◌>>=◌}
+use Rattle.mac_base.specs.Input.{Input, ahead}
 use Rattle.mac_base.specs.Spelling.{Between}
 use Rattle.mac_base.proofs.Choices.{bind_ok, same_ok}
 use Rattle.mac_base.proofs.InputLemmas.{between_none, between_both, between_cut}

@@ -1,6 +1,5 @@
 -- A line table that is read is spelled at its offset, and one that is spelled there is read.
-use Rattle.std.proofs.Common.{◌≡◌, ℕ, ◌+◌, ◌-◌, ◌<◌, ◌≤◌, Bool, List, [], ◌∷◌, ◌++◌, length, take, drop, Result, Ok, Err, refl, ap, subst, ◌∙◌, sym, arith, append_assoc, length-append, length-drop}
-use Rattle.std.specs.List.{AllByRecursion}
+use Rattle.std.proofs.Common.{◌≡◌, ℕ, ◌+◌, ◌-◌, ◌≤◌, Bool, List, ◌++◌, length, take, drop, Result, Ok, Err, refl, ap, subst, ◌∙◌, sym, arith, append_assoc, length-append, length-drop}
 use Rattle.std.proofs.lemmas.List.{take_at, drop_at, length-take-le, take-append-drop, drop-append-le}
 use borrow.Author.Tests.{le-ltb}
 use Rattle.mac_base.specs.Input.{Input, rest, ahead}
@@ -29,14 +28,14 @@ cut_at xs start end ordered within =
     let inside : start ≤ length (take end xs) = omega (arith, length-take-le end xs within) in
     ap (drop start) (sym (take-append-drop end xs)) ∙ drop-append-le start (take end xs) (drop end xs) inside
 
-pub table_takes : (t : Tables) (off : ℕ) (paths : List (List ℕ)) → AllByRecursion (λ b. b < 256) t.lines → files_of t off ≡ Ok paths → (bytes : List ℕ) × IsAt t.lines off bytes × IsTable (strings_in t) bytes paths
-table_takes t off paths are_bytes is =
+pub table_takes : (t : Tables) (off : ℕ) (paths : List (List ℕ)) → files_of t off ≡ Ok paths → (bytes : List ℕ) × IsAt t.lines off bytes × IsTable (strings_in t) bytes paths
+table_takes t off paths is =
     let p : Input = record { bytes = t.lines; at = off } in
     let extent = bind_ok (extent_field (extent_of t.lines off)) _ paths is in
     let e = extent.0 in
     let unit = bind_ok (unit_at t e.wide (fields_of t.lines e)) _ paths extent.2 in
     let same = same_ok {E = LineFault} unit.0.0 paths unit.2 in
-    let length_is = length-takes p e are_bytes (extent_ok (extent_of t.lines off) e extent.1) in
+    let length_is = length-takes p e (extent_ok (extent_of t.lines off) e extent.1) in
     let unit_length = length_is.1 in
     let body : List ℕ = drop e.start (take e.end t.lines) in
     let is_body = body_takes t e.wide (fields_of t.lines e) unit.0.1 unit.0.0 unit.1 in

@@ -2,18 +2,16 @@
 use Rattle.std.proofs.Common.{◌≡◌, ◌≢◌, ℕ, ◌+◌, ◌<◌, ◌≤◌, ◌^◌, Bool, true, false, List, [], ◌∷◌, ◌++◌, length, map, Ok, inl, refl, ap, subst, ◌∙◌, sym, arith, append_assoc, append-nil, length-append, lit<}
 use Rattle.std.specs.List.{AllByRecursion, flat_map}
 use Rattle.std.proofs.lemmas.List.{length-map}
-use Rattle.mac_base.specs.Spelling.{IsUleb, IsFixed, IsString}
+use Rattle.mac_base.specs.Spelling.{IsUleb}
 use Rattle.mac_base.specs.LengthSpelling.{IsLength}
-use Rattle.mac_base.specs.Writing.{uleb_bytes, fixed_bytes}
+use Rattle.mac_base.specs.Writing.{uleb_bytes, length_bytes, offset_bytes}
 use Rattle.mac_base.specs.Values.{Text, Number, offset_width}
 use Rattle.mac_base.specs.declared.form.Form.TheVariants.{String, Udata}
 use Rattle.mac_base.specs.declared.value.Sizes.{Sizes}
-use Rattle.mac_base.proofs.WritingLemmas.{uleb_spelled}
-use Rattle.string_sections.specs.Contributions.{length_bytes}
-use Rattle.string_sections.proofs.ContributionLemmas.{length_spelled}
+use Rattle.mac_base.proofs.WritingLemmas.{uleb_spelled, length_spelled}
 use Rattle.line_names.specs.Entries.{Tables, Entry}
-use Rattle.line_names.specs.Files.{path_in, files_of}
-use Rattle.line_names.specs.Spelling.{Pair, IsPair, AreEach, Field, StringSections, IsEntry, IsEntryList, IsHeader, HaveDirectories, paths_of, IsBody, IsTable, IsAt}
+use Rattle.line_names.specs.Files.{files_of}
+use Rattle.line_names.specs.Spelling.{Pair, IsPair, AreEach, StringSections, IsEntry, IsEntryList, HaveDirectories, paths_of, IsBody, IsTable, IsAt}
 use Rattle.line_names.specs.Laws.{strings_in}
 use Rattle.line_names.specs.Written.{opcode_fields, directory_bytes, file_format, file_bytes, files_bytes, field_bytes, table_with, table_bytes, HaveNoNul}
 use Rattle.line_names.proofs.PairLemmas.{allowed_from}
@@ -105,13 +103,13 @@ same_paths : (directories : List Entry) (paths : List (List ℕ)) → paths ≡ 
 same_paths directories [] = refl
 same_paths directories (path ∷ paths) = ap (λ (ps : List (List ℕ)). path ∷ ps) (same_paths directories paths)
 
-offset_long : (wide : Bool) (n : ℕ) → length (fixed_bytes (offset_width wide) n) ≡ offset_width wide
+offset_long : (wide : Bool) (n : ℕ) → length (offset_bytes wide n) ≡ offset_width wide
 offset_long true n = refl
 offset_long false n = refl
 
 -- what follows unit_length
 abbrev body_of : Bool → List ℕ → List ℕ
-body_of wide fields = 5 ∷ 0 ∷ 8 ∷ 0 ∷ (fixed_bytes (offset_width wide) (length fields) ++ fields)
+body_of wide fields = 5 ∷ 0 ∷ 8 ∷ 0 ∷ (offset_bytes wide (length fields) ++ fields)
 
 body_long : (wide : Bool) (fields : List ℕ) → length (body_of wide fields) ≡ 4 + offset_width wide + length fields
 body_long true fields = omega arith
@@ -120,7 +118,7 @@ body_long false fields = omega arith
 body_spelled : (s : StringSections) (wide : Bool) (paths : List (List ℕ)) → HaveNoNul paths → length paths < 2 ^ 64 → IsBody s wide (body_of wide (field_bytes paths)) paths
 unfolding field_bytes
 body_spelled s wide paths no_nul small =
-    let offset = fixed_bytes (offset_width wide) (length (field_bytes paths)) in
+    let offset = offset_bytes wide (length (field_bytes paths)) in
     let lists : List ℕ = directory_bytes ++ (file_format ++ files_bytes paths) in
     let no_program : file_format ++ files_bytes paths ≡ (file_format ++ files_bytes paths) ++ [] = sym (append-nil (file_format ++ files_bytes paths)) in
     record {

@@ -1,6 +1,5 @@
 -- Reading a line table, spelling it and writing it agree.
-use Rattle.std.specs.Prelude.{◌≡◌, ℕ, ◌<◌, ◌≤◌, Bool, List, length, Ok}
-use Rattle.std.specs.List.{AllByRecursion}
+use Rattle.std.specs.Prelude.{◌≡◌, ℕ, ◌≤◌, Bool, List, length, Ok}
 use Rattle.line_names.specs.Entries.{Tables}
 use Rattle.line_names.specs.Files.{files_of}
 use Rattle.line_names.specs.Spelling.{StringSections, IsTable, IsAt}
@@ -10,9 +9,9 @@ use Rattle.line_names.specs.Written.{table_bytes, HaveNoNul}
 abbrev pub strings_in : Tables → StringSections
 strings_in t = record { strs = t.strs; line_strs = t.line_strs }
 
--- Of a section of bytes, what is read at an offset is spelled by a table there.
+-- what is read at an offset is spelled by a table there
 abbrev pub ReadIsSpelled : Type 0
-ReadIsSpelled = (t : Tables) (off : ℕ) (paths : List (List ℕ)) → AllByRecursion (λ b. b < 256) t.lines → files_of t off ≡ Ok paths → (bytes : List ℕ) × IsAt t.lines off bytes × IsTable (strings_in t) bytes paths
+ReadIsSpelled = (t : Tables) (off : ℕ) (paths : List (List ℕ)) → files_of t off ≡ Ok paths → (bytes : List ℕ) × IsAt t.lines off bytes × IsTable (strings_in t) bytes paths
 
 -- what a table spells is read, whatever is before and after it
 abbrev pub SpelledIsRead : Type 0

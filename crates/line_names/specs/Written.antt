@@ -2,8 +2,7 @@
 use Rattle.std.specs.Prelude.{◌≢◌, ℕ, ◌+◌, Bool, List, [], ◌∷◌, ◌++◌, length}
 use Rattle.std.specs.List.{AllByRecursion, flat_map}
 use Rattle.mac_base.specs.Values.{offset_width}
-use Rattle.mac_base.specs.Writing.{uleb_bytes, fixed_bytes}
-use Rattle.string_sections.specs.Contributions.{length_bytes}
+use Rattle.mac_base.specs.Writing.{uleb_bytes, length_bytes, offset_bytes}
 
 -- minimum_instruction_length 1, maximum_operations_per_instruction 1, default_is_stmt 1, line_base -5, line_range 14, opcode_base 13, and the lengths of the standard opcodes
 abbrev pub opcode_fields : List ℕ
@@ -31,7 +30,7 @@ field_bytes paths = opcode_fields ++ (directory_bytes ++ (file_format ++ files_b
 
 -- a table with these fields after header_length: unit_length, version 5, address_size 8, segment_selector_size 0, header_length
 unfoldable pub table_with : Bool → List ℕ → List ℕ
-table_with wide fields = length_bytes wide (4 + offset_width wide + length fields) ++ 5 ∷ 0 ∷ 8 ∷ 0 ∷ (fixed_bytes (offset_width wide) (length fields) ++ fields)
+table_with wide fields = length_bytes wide (4 + offset_width wide + length fields) ++ 5 ∷ 0 ∷ 8 ∷ 0 ∷ (offset_bytes wide (length fields) ++ fields)
 
 -- the whole table
 abbrev pub table_bytes : Bool → List (List ℕ) → List ℕ

@@ -9,37 +9,37 @@ use thiserror::Error;
 #[derive(Clone, Copy, Debug, PartialEq, Eq, Error)]
 pub enum LineKind {
     /// A field is cut off by the unit's end, or the unit by the section's.
-    #[error("a field is cut off")]
+    #[error("Cut")]
     Cut,
     /// A LEB128 number doesn't fit 64 bits.
-    #[error("a number doesn't fit 64 bits")]
+    #[error("Leb")]
     Leb,
     /// No NUL ends a string.
-    #[error("no NUL ends a string")]
+    #[error("NoNul")]
     NoNul,
     /// The length is one of the reserved ones (7.2.2).
-    #[error("the length is reserved")]
+    #[error("Length")]
     Length,
     /// The version is not 5.
-    #[error("the version is not 5")]
+    #[error("Version")]
     Version,
     /// `opcode_base` is 0.
-    #[error("the opcode base is 0")]
+    #[error("OpcodeBase")]
     OpcodeBase,
     /// There are entries, and their format has no path. The place is that of their count.
-    #[error("the format of the entries has no path")]
+    #[error("NoPath")]
     NoPath,
     /// A form that its content can't have.
-    #[error("a content can't have this form")]
+    #[error("Form")]
     Form,
     /// The offset of a path names no string.
-    #[error("the offset of a path names no string")]
+    #[error("StrRange")]
     StrRange,
     /// A file's directory is not among the directories.
-    #[error("there is no such directory")]
+    #[error("DirIndex")]
     DirIndex,
     /// Memory ran out. The place is 0.
-    #[error("out of memory")]
+    #[error("NoMemory")]
     NoMemory,
 }
 

@@ -1,19 +1,15 @@
 ghost use Rattle.std.specs.Prelude.{◌≡◌, ◌≤◌, ◌++◌, length, IfOk, OnOk, OnErr};
 ghost use Rattle.std.specs.List.{flat_map};
-ghost use Rattle.mac_base.specs.Values.{offset_width};
-ghost use Rattle.mac_base.specs.Writing.{fixed_bytes};
-ghost use Rattle.line_names.specs.Written.{file_bytes, field_bytes, table_with, table_bytes, HaveNoNul};
+ghost use Rattle.line_names.specs.Written.{file_bytes, field_bytes, table_with, table_bytes};
 
-use mac_base::{Bytes, NoMemory, Paths, push_fixed, push_uleb};
+use mac_base::{Bytes, NoMemory, Paths, push_length, push_section_offset, push_uleb};
 use std::alloc::Global;
-use string_sections::push_length;
 
 /// Appends a line table of version 5 that names these paths, by their indexes from 0 on (DWARF 5, 6.2.4). It has the
 /// one directory `.`, no line number program, and offsets of eight bytes where `wide` holds. After `NoMemory` the bytes
 /// are as before.
 pub fn write_lines(into: &mut Vec<u8>, files: &Paths, wide: bool) -> Result<(), NoMemory>
-    requires no_nul { HaveNoNul files.now }
-    requires fits { length (table_bytes wide files.now) ≤ 1_073_741_824 }
+    requires { length (table_bytes wide files.now) ≤ 1_073_741_824 }
     ensures ok { OnOk result (into.new.items ≡ into.old.items ++ table_bytes wide files.now) }
     ensures err { OnErr result (into.new.items ≡ into.old.items) }
 {
@@ -35,21 +31,10 @@ fn table_of(alloc: Global, fields: &[u8], wide: bool) -> Result<Vec<u8>, NoMemor
     push_length(&mut table, wide, 4 + offset_width + size)?;
     // version, address_size, segment_selector_size
     table.extend_from_slice(&[5, 0, 8, 0])?;
-    push_header_length(&mut table, wide, size)?;
+    // header_length
+    push_section_offset(&mut table, wide, size)?;
     table.extend_from_slice(fields)?;
     Ok(table)
-}
-
-/// Appends `header_length`.
-fn push_header_length(into: &mut Vec<u8>, wide: bool, size: u64) -> Result<(), NoMemory>
-    requires { size ≤ 1_073_741_824 }
-    ensures { OnOk result (into.new.items ≡ into.old.items ++ fixed_bytes (offset_width wide) size) }
-{
-    if wide {
-        push_fixed(into, size, 8)
-    } else {
-        push_fixed(into, size, 4)
-    }
 }
 
 /// What follows `header_length`.
