@@ -1,7 +1,7 @@
 -- An abbreviation that is read is spelled by its bytes, and one that is spelled is read.
 use Rattle.std.proofs.Common.{◌≡◌, ◌≢◌, ℕ, zero, suc, ◌+◌, ◌-◌, ◌<◌, ◌≤◌, Bool, true, false, eqb, cond, List, [], ◌∷◌, ◌++◌, length, drop, Option, Some, None, Result, Ok, Err, inl, inr, refl, ap, subst, ◌∙◌, sym, arith, length-append, length-drop, append_assoc, append-nil}
-use Rattle.std.specs.Prelude.{◌&&◌}
 use Rattle.std.specs.List.{AllByRecursion}
+use Rattle.std.proofs.lemmas.Bool.{and_parts}
 use borrow.Author.Tests.{eqb-true, eqb-false, apart_eqb, eq-eqb}
 use Rattle.mac_base.specs.Input.{Input, rest, ◌>>=◌}
 use Rattle.mac_base.specs.declared.cursor.CursorFault.{CursorFault}
@@ -56,13 +56,9 @@ attribute_long bytes a is =
     let long = digits_long is.name is.is_name.0.digits in
     rw is.spelled (omega (arith, length-append is.name (is.form ++ is.constant), long))
 
-both_were : (a b : Bool) → (a && b) ≡ true → (a ≡ true) × (b ≡ true)
-both_were true b is = (refl, is)
-both_were false b is = cc
-
 ended : (a : Attribute) → ends a ≡ true → a ≡ record { name = 0; form = 0 }
 ended a is =
-    let both = both_were (eqb a.name 0) (eqb a.form 0) is in
+    let both = and_parts (eqb a.name 0) (eqb a.form 0) is in
     let name = eqb-true a.name 0 both.0 in
     let form = eqb-true a.form 0 both.1 in
     λ i. record { name = name i; form = form i }

@@ -1,15 +1,12 @@
 -- How many bytes are written.
-use Rattle.std.proofs.Common.{◌≡◌, ℕ, zero, suc, ◌+◌, ◌/◌, ◌<◌, ◌≤◌, Bool, List, [], ◌∷◌, ◌++◌, length, get_or, drop, refl, ap, ◌∙◌, sym, arith, length-append, append_assoc, append-nil}
+use Rattle.std.proofs.Common.{◌≡◌, ℕ, ◌+◌, ◌<◌, ◌≤◌, Bool, List, [], ◌∷◌, ◌++◌, length, get_or, drop, ap, ◌∙◌, sym, arith, length-append, append_assoc, append-nil}
 use Rattle.std.proofs.lemmas.List.{drop_more, drop_all}
 use Rattle.std.proofs.lemmas.List.Folds.{length-flat_map-take}
 use Rattle.mac_base.specs.Values.{offset_width}
-use Rattle.mac_base.specs.Writing.{fixed_bytes}
+use Rattle.mac_base.specs.Writing.{length_bytes, offset_bytes, string_bytes}
+use Rattle.mac_base.proofs.WritingLemmas.{fixed_long}
 use Rattle.info_roots.specs.declared.root.Root.{Root}
-use Rattle.info_roots.specs.Written.{code_for, offset_bytes, optional_bytes, string_bytes, body_bytes, length_bytes, unit_bytes, info_bytes}
-
-fixed_long : (k n : ℕ) → length (fixed_bytes k n) ≡ k
-fixed_long zero n = refl
-fixed_long (suc k) n = ap suc (fixed_long k (n / 256))
+use Rattle.info_roots.specs.Written.{code_for, optional_bytes, body_bytes, unit_bytes, info_bytes}
 
 pub offset_long : (wide : Bool) (n : ℕ) → length (offset_bytes wide n) ≡ offset_width wide
 offset_long wide n = fixed_long (offset_width wide) n

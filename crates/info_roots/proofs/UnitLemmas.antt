@@ -1,6 +1,7 @@
 -- A unit that is read is one by its bytes, and one by its bytes is read.
-use Rattle.std.proofs.Common.{◌≡◌, ◌≢◌, ℕ, ◌<◌, ◌≤◌, Bool, true, false, eqb, ltb, leb, cond, List, ◌∷◌, ◌++◌, length, drop, Option, Some, None, Result, Ok, Err, inl, inr, ◌⊎◌, refl, ap, subst, ◌∙◌, sym, arith}
+use Rattle.std.proofs.Common.{◌≡◌, ◌≢◌, ℕ, ◌<◌, ◌≤◌, Bool, eqb, ltb, leb, cond, List, ◌∷◌, ◌++◌, length, drop, Option, Some, None, Result, Ok, Err, inl, inr, ◌⊎◌, refl, ap, subst, ◌∙◌, sym, arith}
 use Rattle.std.specs.Prelude.{◌&&◌}
+use Rattle.std.proofs.lemmas.Bool.{and_parts}
 use borrow.Author.Tests.{eqb-true, eqb-false, eq-eqb, apart_eqb, ltb-true, lt-ltb, leb-true, le-leb}
 use Rattle.mac_base.specs.declared.value.Sizes.{Sizes}
 use Rattle.mac_base.specs.Input.{Input, rest, ◌>>=◌}
@@ -129,10 +130,6 @@ fields_takes s at wide version bytes p root spelled five is =
           subst (IsUnitBody s wide bytes) (same_ok {E = InfoFault} None root other.1) (OtherType version (rest kind.0.1) kind.0.0 whole five (eqb-false kind.0.0 1 other.0))
     ]
 
-both_were : (a b : Bool) → (a && b) ≡ true → (a ≡ true) × (b ≡ true)
-both_were true b is = (refl, is)
-both_were false b is = cc
-
 pub body_takes : (s : SectionBytes) (at : ℕ) (wide : Bool) (p : Input) (root : Option Root) → unit_at s at wide p ≡ Ok root → IsUnitBody s wide (rest p) root
 body_takes s at wide p root is =
     let version = bind_ok (field (number_at 2 p)) _ root is in
@@ -142,7 +139,7 @@ body_takes s at wide p root is =
       | inl five ↦ fields_takes s at wide x.0 (rest p) version.0.1 root x.1 (subst (IsFixed 2 x.0) (eqb-true version.0.0 5 five.0) x.2) five.1
       | inr other ↦
           let old = guarded older (Ok None) root (fault_at p.at Version) other.1 in
-          let both = both_were (leb 2 version.0.0) (leb version.0.0 4) old.0 in
+          let both = and_parts (leb 2 version.0.0) (leb version.0.0 4) old.0 in
           subst (IsUnitBody s wide (rest p)) (same_ok {E = InfoFault} None root old.1) (Older x.0 (rest version.0.1) version.0.0 x.1 x.2 (leb-true 2 version.0.0 both.0) (leb-true version.0.0 4 both.1))
     ]
 

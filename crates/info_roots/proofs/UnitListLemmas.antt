@@ -1,7 +1,7 @@
 -- The roots that are read are those of the units, and those of the units are read.
 use Rattle.std.proofs.Common.{◌≡◌, ◌≢◌, ℕ, zero, suc, ◌+◌, ◌-◌, ◌<◌, ◌≤◌, Bool, true, false, eqb, cond, List, [], ◌∷◌, ◌++◌, length, take, drop, Option, Some, None, Result, Ok, Err, inl, inr, refl, ap, subst, ◌∙◌, sym, arith, length-append, length-drop, append_assoc, append-nil}
 use Rattle.std.specs.Prelude.{filter_map}
-use Rattle.std.specs.List.{AllByRecursion, cons_option}
+use Rattle.std.specs.List.{cons_option}
 use Rattle.std.proofs.lemmas.List.{drop-drop, drop-take, take-append-drop, length-take-le, take_at, drop_at, drop_all}
 use borrow.Author.Tests.{eqb-true, eqb-false, apart_eqb, le-ltb}
 use Rattle.mac_base.specs.declared.extent.Extent.{Extent}
@@ -36,11 +36,11 @@ length_long true bytes n is = rw is.2 (omega (arith, length-append is.0 is.1, is
 fields_are : (info : List ℕ) (e : Extent) (start n : ℕ) → e.start ≡ start → e.end ≡ start + n → rest (fields_of info e) ≡ take n (drop start info)
 fields_are info e start n begins ends = ap (λ k. drop k (take e.end info)) begins ∙ ap (λ k. drop start (take k info)) ends ∙ drop-take start n info
 
-extent_takes : (info : List ℕ) (at : ℕ) (e : Extent) → AllByRecursion (λ b. b < 256) info → extent_of info at ≡ Ok e →
+extent_takes : (info : List ℕ) (at : ℕ) (e : Extent) → extent_of info at ≡ Ok e →
     (front : List ℕ) × (body : List ℕ) × (drop at info ≡ (front ++ body) ++ drop e.end info) × IsLength e.wide front (length body) × (rest (fields_of info e) ≡ body) × (e.end ≤ length info) × (at < e.end)
-extent_takes info at e are is =
+extent_takes info at e is =
     let p : Input = record { bytes = info; at = at } in
-    let found = length-takes p e are is in
+    let found = length-takes p e is in
     let front = found.1 in
     let n = found.2 in
     let start = at + length front in
@@ -106,15 +106,15 @@ with_again at roots (Some root) few =
     ap (λ t. cond t (Err (fault_at at TooManyRoots)) (Ok (roots ++ root ∷ []))) (apart_eqb (length roots) 65536 not)
 
 -- what is read of one unit
-unit_takes : (s : SectionBytes) (at next : ℕ) (roots more : List Root) → AllByRecursion (λ b. b < 256) s.info → length roots ≤ 65536 → unit_read s at roots ≡ Ok (next, more) →
+unit_takes : (s : SectionBytes) (at next : ℕ) (roots more : List Root) → length roots ≤ 65536 → unit_read s at roots ≡ Ok (next, more) →
     (unit : Option Root) × (bytes : List ℕ) × (drop at s.info ≡ bytes ++ drop next s.info) × IsUnit s bytes unit × (more ≡ roots ++ cons_option unit []) × (length more ≤ 65536) × (next ≤ length s.info) × (at < next)
-unit_takes s at next roots more are few is =
+unit_takes s at next roots more few is =
     let extent = bind_ok (extent_field (extent_of s.info at)) _ (next, more) is in
     let e = extent.0 in
     let root = bind_ok (root_at s at e) _ (next, more) extent.2 in
     let all = bind_ok (with_root at roots root.0) _ (next, more) root.2 in
     let same = same_ok {E = InfoFault} (e.end, all.0) (next, more) all.2 in
-    let lies = extent_takes s.info at e are (extent_ok (extent_of s.info at) e extent.1) in
+    let lies = extent_takes s.info at e (extent_ok (extent_of s.info at) e extent.1) in
     let body = body_takes s at e.wide (fields_of s.info e) root.0 root.1 in
     let added = with_takes at roots all.0 root.0 few all.1 in
     subst (λ (x : ℕ × List Root). (unit : Option Root) × (bytes : List ℕ) × (drop at s.info ≡ bytes ++ drop x.0 s.info) × IsUnit s bytes unit × (x.1 ≡ roots ++ cons_option unit []) × (length x.1 ≤ 65536) × (x.0 ≤ length s.info) × (at < x.0)) same (
@@ -128,12 +128,12 @@ unit_takes s at next roots more are few is =
       lies.6,
     )
 
-units_takes : (n : ℕ) (s : SectionBytes) (at : ℕ) (roots all : List Root) → AllByRecursion (λ b. b < 256) s.info → length s.info ≤ at + n → length roots ≤ 65536 → roots_from s n at roots ≡ Ok all →
+units_takes : (n : ℕ) (s : SectionBytes) (at : ℕ) (roots all : List Root) → length s.info ≤ at + n → length roots ≤ 65536 → roots_from s n at roots ≡ Ok all →
     (units : List (Option Root)) × AreUnits s (drop at s.info) units × (all ≡ roots ++ roots_of units) × (length all ≤ 65536)
-units_takes zero s at roots all are left few is =
+units_takes zero s at roots all left few is =
     let same = same_ok {E = InfoFault} roots all is in
     ([], drop_all at s.info (omega (arith, left)), sym same ∙ sym (append-nil roots), subst (λ (xs : List Root). length xs ≤ 65536) same few)
-units_takes (suc n) s at roots all are left few is =
+units_takes (suc n) s at roots all left few is =
     elim (chosen (eqb at (length s.info)) (Ok roots) (unit_read s at roots >>= λ next. roots_from s n next.0 next.1) (Ok all) is) [
       | inl end ↦
           let same = same_ok {E = InfoFault} roots all end.1 in
@@ -141,9 +141,9 @@ units_takes (suc n) s at roots all are left few is =
           ([], drop_all at s.info here, sym same ∙ sym (append-nil roots), subst (λ (xs : List Root). length xs ≤ 65536) same few)
       | inr more ↦
           let next = bind_ok (unit_read s at roots) _ all more.1 in
-          let one = unit_takes s at next.0.0 roots next.0.1 are few next.1 in
+          let one = unit_takes s at next.0.0 roots next.0.1 few next.1 in
           let near : length s.info ≤ next.0.0 + n = omega (arith, left, one.7) in
-          let others = units_takes n s next.0.0 next.0.1 all are near one.5 next.2 in (
+          let others = units_takes n s next.0.0 next.0.1 all near one.5 next.2 in (
             one.0 ∷ others.0,
             (one.1, drop next.0.0 s.info, one.2, one.3, others.1),
             others.2 ∙ ap (λ (xs : List Root). xs ++ roots_of others.0) one.4 ∙ one_more roots one.0 others.0,
@@ -176,9 +176,9 @@ units_again (unit ∷ units) n s at roots left within are few =
     ∙ units_again units (n - 1) s e.end (roots ++ cons_option unit []) near lies.5 (subst (λ (xs : List ℕ). AreUnits s xs units) (sym lies.4) are.4) (subst (λ (xs : List Root). length xs ≤ 65536) (sym whole) few)
     ∙ ap (λ (xs : List Root). Ok xs) whole
 
-pub roots_takes : (s : SectionBytes) (roots : List Root) → AllByRecursion (λ b. b < 256) s.info → roots_in s ≡ Ok roots → AreRoots s roots
-roots_takes s roots are is =
-    let found = units_takes (length s.info) s 0 [] roots are (omega arith) (omega arith) is in
+pub roots_takes : (s : SectionBytes) (roots : List Root) → roots_in s ≡ Ok roots → AreRoots s roots
+roots_takes s roots is =
+    let found = units_takes (length s.info) s 0 [] roots (omega arith) (omega arith) is in
     record { units = found.0; are_units = found.1; has_roots = found.2; few = found.3 }
 
 pub roots_again : (s : SectionBytes) (roots : List Root) → AreRoots s roots → roots_in s ≡ Ok roots

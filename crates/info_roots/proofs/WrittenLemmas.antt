@@ -5,10 +5,9 @@ use borrow.Author.Tests.{eqb-false}
 use Rattle.mac_base.specs.declared.value.Sizes.{Sizes}
 use Rattle.mac_base.specs.SectionBytes.{SectionBytes}
 use Rattle.mac_base.specs.Spelling.{IsFixed}
-use Rattle.mac_base.specs.LengthSpelling.{IsLength}
 use Rattle.mac_base.specs.Values.{Number, Text as Characters, offset_width}
-use Rattle.mac_base.specs.Writing.{fixed_bytes}
-use Rattle.mac_base.proofs.WritingLemmas.{fixed_spelled}
+use Rattle.mac_base.specs.Writing.{length_bytes, offset_bytes, string_bytes}
+use Rattle.mac_base.proofs.WritingLemmas.{fixed_spelled, length_spelled}
 use Rattle.info_roots.specs.declared.abbreviation.Attribute.{Attribute}
 use Rattle.info_roots.specs.declared.root.Root.{Root}
 use Rattle.info_roots.specs.Abbreviations.{Abbreviation, Declaration, ends}
@@ -16,7 +15,7 @@ use Rattle.info_roots.specs.AbbreviationSpelling.{IsUnsigned, IsAttribute, AreAt
 use Rattle.info_roots.specs.EntrySpelling.{AttributeValue, AreValues, HaveForms, number_named, IsRoot}
 use Rattle.info_roots.specs.UnitSpelling.{IsFirstEntry, CompileUnit, IsUnitBody, Compile, IsUnit, AreUnits, AreRoots}
 use Rattle.info_roots.specs.Roots.{roots_in}
-use Rattle.info_roots.specs.Written.{abbrev_bytes, code_for, offset_bytes, optional_bytes, string_bytes, body_bytes, length_bytes, unit_bytes, info_bytes, Fits, IsWritable}
+use Rattle.info_roots.specs.Written.{abbrev_bytes, code_for, optional_bytes, body_bytes, unit_bytes, info_bytes, Fits, IsWritable}
 use Rattle.info_roots.proofs.BodyLemmas.{unit_long}
 use Rattle.info_roots.proofs.UnitListLemmas.{roots_again}
 
@@ -140,10 +139,6 @@ has_code None (Some b) after =
       have_others = (differ 1 4 refl, (differ 2 4 refl, (differ 3 4 refl, tt)));
       is_own = fourth;
     }
-
-length_spelled : (wide : Bool) (n : ℕ) → n < 0xffff_fff0 → IsLength wide (length_bytes wide n) n
-length_spelled false n low = (fixed_spelled 4 n (omega (arith, low)), low)
-length_spelled true n low = (fixed_bytes 4 0xffff_ffff, fixed_bytes 8 n, refl, fixed_spelled 4 0xffff_ffff (omega arith), fixed_spelled 8 n (omega (arith, low)))
 
 -- the attributes of a written entry, with their values
 abbrev text_value : ℕ → List ℕ → AttributeValue

@@ -1,15 +1,14 @@
 -- Reading the roots of a file and the relation between its bytes and its roots agree.
 use Rattle.std.specs.Prelude.{◌≡◌, ℕ, ◌<◌, ◌≤◌, List, ◌++◌, length, All, Option, Some, Ok}
-use Rattle.std.specs.List.{AllByRecursion}
 use Rattle.mac_base.specs.SectionBytes.{SectionBytes}
 use Rattle.info_roots.specs.declared.root.Root.{Root}
 use Rattle.info_roots.specs.Roots.{roots_in}
 use Rattle.info_roots.specs.UnitSpelling.{IsUnit, AreUnits, AreRoots}
 use Rattle.info_roots.specs.Written.{abbrev_bytes, body_bytes, unit_bytes, info_bytes, IsWritable}
 
--- what is read of a section of bytes are the file's roots
+-- what is read are the file's roots
 abbrev pub ReadAreRoots : Type 0
-ReadAreRoots = (s : SectionBytes) (roots : List Root) → AllByRecursion (λ b. b < 256) s.info → roots_in s ≡ Ok roots → AreRoots s roots
+ReadAreRoots = (s : SectionBytes) (roots : List Root) → roots_in s ≡ Ok roots → AreRoots s roots
 
 -- and a file's roots are read
 abbrev pub RootsAreRead : Type 0

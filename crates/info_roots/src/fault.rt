@@ -9,43 +9,43 @@ use thiserror::Error;
 #[derive(Clone, Copy, Debug, PartialEq, Eq, Error)]
 pub enum InfoKind {
     /// A field is cut off by the unit's end, or the unit by the section's.
-    #[error("a field is cut off")]
+    #[error("Cut")]
     Cut,
     /// A LEB128 number doesn't fit 64 bits.
-    #[error("a number doesn't fit 64 bits")]
+    #[error("Leb")]
     Leb,
     /// No NUL ends a string.
-    #[error("no NUL ends a string")]
+    #[error("NoNul")]
     NoNul,
     /// The length is one of the reserved ones (7.2.2).
-    #[error("the length is reserved")]
+    #[error("Length")]
     Length,
     /// The version is not 2 to 5.
-    #[error("the version is not 2 to 5")]
+    #[error("Version")]
     Version,
     /// The table of abbreviations is outside `.debug_abbrev`.
-    #[error("there is no such table of abbreviations")]
+    #[error("AbbrevRange")]
     AbbrevRange,
     /// The table has no such abbreviation, or can't be read up to it. The place is that of the entry's code.
-    #[error("there is no such abbreviation")]
+    #[error("Abbrev")]
     Abbrev,
     /// A form that is unknown, or that the attribute can't have.
-    #[error("an attribute can't have this form")]
+    #[error("Form")]
     Form,
     /// The offset of a string names none. The place is the unit's, as in the next three.
-    #[error("the offset of a string names none")]
+    #[error("StrRange")]
     StrRange,
     /// A string is named by an index, and the unit has no base of string offsets.
-    #[error("there is no base of string offsets")]
+    #[error("NoStrBase")]
     NoStrBase,
     /// The index of a string is outside `.debug_str_offsets`.
-    #[error("the index of a string is out of range")]
+    #[error("StrxRange")]
     StrxRange,
     /// There are more than 65,536 roots.
-    #[error("there are too many roots")]
+    #[error("TooManyRoots")]
     TooManyRoots,
     /// Memory ran out. The place is 0.
-    #[error("out of memory")]
+    #[error("NoMemory")]
     NoMemory,
 }
 

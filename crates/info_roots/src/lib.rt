@@ -7,6 +7,7 @@ mod entry;
 mod fault;
 mod laws;
 mod root;
+mod root_list;
 mod roots;
 #[cfg(test)]
 mod tests;
@@ -17,5 +18,6 @@ mod written;
 pub use fault::{InfoFault, InfoKind};
 pub use laws::{roots_are_exact, written_roots_are_read};
 pub use root::Root;
+pub use root_list::RootList;
 pub use roots::read_roots;
 pub use written::write_roots;

@@ -1,9 +1,9 @@
-ghost use Rattle.std.specs.Prelude.{◌≡◌, ◌≤◌, ◌<◌, ◌^◌, ◌++◌, length, All, IfOk, OnOk};
+ghost use Rattle.std.specs.Prelude.{◌≡◌, ◌≤◌, ◌<◌, ◌++◌, length, All, IfOk, OnOk};
 ghost use Rattle.mac_base.specs.Values.{offset_width};
-ghost use Rattle.info_roots.specs.Written.{abbrev_bytes, code_for, offset_bytes, optional_bytes, string_bytes, body_bytes, length_bytes, unit_bytes, info_bytes, Fits, IsWritable};
+ghost use Rattle.info_roots.specs.Written.{abbrev_bytes, code_for, optional_bytes, body_bytes, unit_bytes, info_bytes, Fits, OffsetsFit};
 
 use crate::root::Root;
-use mac_base::{Bytes, NoMemory, push_fixed};
+use mac_base::{Bytes, NoMemory, push_length, push_section_offset, push_string};
 use std::alloc::Global;
 
 /// The fields of each written unit before its table of abbreviations: version 5, `DW_UT_compile`, addresses of 8 bytes.
@@ -13,7 +13,7 @@ const FIRST_FIELDS: &[u8] = b"\x05\0\x01\x08";
 /// order, in the 64-bit format where the root is wide (DWARF 5, 7.5.1.1 and 7.5.3). `read_roots` reads the roots again.
 pub fn write_roots(alloc: Global, roots: &[Root]) -> Result<(Bytes, Bytes), NoMemory>
     requires few { length roots.now ≤ 65536 }
-    requires writable { All IsWritable roots.now }
+    requires fit { All OffsetsFit roots.now }
     requires small { length (info_bytes roots.now) ≤ 1073741824 }
     ensures info { IfOk result (λ written. written.0 ≡ info_bytes roots.now) }
     ensures abbrevs { IfOk result (λ written. written.1 ≡ abbrev_bytes) }
@@ -38,26 +38,12 @@ fn abbreviations() -> &'static [u8]
 /// Appends the unit of a root.
 #[tactic(auto, unfolding(crate::specs::Written::unit_bytes))]
 fn push_unit(into: &mut Vec<u8>, root: &Root) -> Result<(), NoMemory>
-    requires writable { IsWritable root.now }
+    requires fit { OffsetsFit root.now }
     requires small { length (body_bytes root.now) < 0xffff_fff0 }
     ensures { OnOk result (into.new.items ≡ into.old.items ++ unit_bytes root.now) }
 {
     push_length(into, root.wide, body_length(root))?;
     push_body(into, root)?;
-    Ok(())
-}
-
-/// Appends the length of a unit.
-fn push_length(into: &mut Vec<u8>, wide: bool, length: u64) -> Result<(), NoMemory>
-    requires { length < 0xffff_fff0 }
-    ensures { OnOk result (into.new.items ≡ into.old.items ++ length_bytes wide length) }
-{
-    if wide {
-        push_fixed(into, 0xffff_ffff, 4)?;
-        push_fixed(into, length, 8)?;
-    } else {
-        push_fixed(into, length, 4)?;
-    }
     Ok(())
 }
 
@@ -94,15 +80,15 @@ fn optional_length(wide: bool, offset: Option<u64>) -> u64
 /// Appends a unit without its length.
 #[tactic(auto, unfolding(crate::specs::Written::body_bytes))]
 fn push_body(into: &mut Vec<u8>, root: &Root) -> Result<(), NoMemory>
-    requires { IsWritable root.now }
+    requires { OffsetsFit root.now }
     ensures { OnOk result (into.new.items ≡ into.old.items ++ body_bytes root.now) }
 {
     into.extend_from_slice(FIRST_FIELDS)?;
-    push_offset(into, root.wide, 0)?;
+    push_section_offset(into, root.wide, 0)?;
     into.push(code_of(root.line, root.str_base))?;
     push_string(into, root.name.as_slice())?;
     push_string(into, root.dir.as_slice())?;
-    push_offset(into, root.wide, root.macros)?;
+    push_section_offset(into, root.wide, root.macros)?;
     push_optional(into, root.wide, root.line)?;
     push_optional(into, root.wide, root.str_base)?;
     Ok(())
@@ -120,30 +106,13 @@ fn code_of(line: Option<u64>, str_base: Option<u64>) -> u8
     }
 }
 
-/// Appends an offset in the width of the unit's format.
-fn push_offset(into: &mut Vec<u8>, wide: bool, offset: u64) -> Result<(), NoMemory>
-    requires { offset < 256 ^ offset_width wide }
-    ensures { OnOk result (into.new.items ≡ into.old.items ++ offset_bytes wide offset) }
-{
-    push_fixed(into, offset, if wide { 8 } else { 4 })
-}
-
-/// The same of an offset that an entry may lack.
+/// Appends an offset that an entry may lack.
 fn push_optional(into: &mut Vec<u8>, wide: bool, offset: Option<u64>) -> Result<(), NoMemory>
     requires { Fits wide offset }
     ensures { OnOk result (into.new.items ≡ into.old.items ++ optional_bytes wide offset) }
 {
     match offset {
-        Some(offset) => push_offset(into, wide, offset),
+        Some(offset) => push_section_offset(into, wide, offset),
         None => Ok(()),
     }
-}
-
-/// Appends a string and its NUL.
-fn push_string(into: &mut Vec<u8>, text: &[u8]) -> Result<(), NoMemory>
-    ensures { OnOk result (into.new.items ≡ into.old.items ++ string_bytes text.now) }
-{
-    into.extend_from_slice(text)?;
-    into.push(0)?;
-    Ok(())
 }
