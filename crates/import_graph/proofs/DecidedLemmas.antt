@@ -1,7 +1,6 @@
 -- Each root's walk comes to an answer.
-use Rattle.std.proofs.Common.{◌≡◌, ◌⊎◌, inl, inr, ℕ, zero, suc, ◌+◌, ◌<◌, ◌≤◌, Bool, true, false, ◌||◌, cond, eqb, IsTrue, IsFalse, List, [], ◌∷◌, length, Some, Result, Ok, Err, refl, subst, sym, ◌∙◌, ◌≢◌, arith}
+use Rattle.std.proofs.Common.{◌≡◌, ℕ, zero, suc, ◌+◌, ◌<◌, ◌≤◌, Bool, true, false, ◌||◌, cond, eqb, IsTrue, IsFalse, List, [], ◌∷◌, length, Some, Result, Ok, Err, refl, subst, sym, arith}
 use Rattle.std.proofs.lemmas.Bool.{eqb-true, eq-eqb}
-use Rattle.std.proofs.lemmas.Bool.Decides.{eqb_tells}
 use Rattle.mac_base.specs.Input.{Input, rest}
 use Rattle.mac_base.specs.SectionBytes.{SectionBytes}
 use Rattle.info_roots.specs.declared.root.Root.{Root}
@@ -13,6 +12,8 @@ use Rattle.import_graph.specs.Units.{Reader, begun, root_begun, lent_by}
 use Rattle.import_graph.specs.Walk.{Turn, Ends, Passes, Enters, turn_at, is_among, Walk, Finishes, Stops, Goes, Again, Cycle, Bars, Fails, Returns, RootWalk, NoTable, NoUnit, Walks}
 use Rattle.import_graph.proofs.TurnLemmas.{moves_by}
 use Rattle.import_graph.proofs.SaidLemmas.{said_of, imports_inside}
+use Rattle.import_graph.proofs.MeasureLemmas.{sums_kept, sums_below, below_other}
+use Rattle.import_graph.proofs.WholeLemmas.{err_is_no_ok}
 
 -- of the first n offsets, those of units that are neither around nor walked
 abbrev free : ℕ → List ℕ → List ℕ → ℕ
@@ -23,19 +24,6 @@ weight_kept : (b c : Bool) → (IsTrue b → IsTrue c) → cond c 0 1 ≤ cond b
 weight_kept true c kept = rw (kept refl) (omega arith)
 weight_kept false true kept = omega arith
 weight_kept false false kept = omega arith
-
-sums_kept : (a b x y : ℕ) → a ≤ b → x ≤ y → a + x ≤ b + y
-sums_kept a b x y first second = omega arith
-
-sums_below : (a b x y : ℕ) → a + 1 ≤ b → x ≤ y → a + x + 1 ≤ b + y
-sums_below a b x y first second = omega arith
-
-below_by : (at n : ℕ) → at < suc n → eqb at n ≡ false → ((eqb at n ≡ true) × (at ≡ n)) ⊎ ((eqb at n ≡ false) × (at ≢ n)) → at < n
-below_by at n within other (inl is) = let clash : true ≡ false = sym is.0 ∙ other in cc
-below_by at n within other (inr is) = let apart : at ≢ n = is.1 in omega arith
-
-below_other : (at n : ℕ) → at < suc n → eqb at n ≡ false → at < n
-below_other at n within other = below_by at n within other (eqb_tells at n)
 
 here_by : (a b : ℕ) (x y : Bool) → IsFalse x → IsTrue y → a ≤ b → a + cond y 0 1 + 1 ≤ b + cond x 0 1
 here_by a b x y old new less = rw (old, new) (omega arith)
@@ -103,9 +91,6 @@ there_first t around walked = subst (λ (b : Bool). IsTrue ((b || is_among t aro
 -- all that was walked stays walked
 abbrev Keeps : List ℕ → List ℕ → Type 0
 Keeps walked more = (t : ℕ) → IsTrue (is_among t walked) → IsTrue (is_among t more)
-
-err_is_no_ok : (fault : FileFault) (more : List ℕ) → ◌≡◌ {A = Result (List ℕ) FileFault} (Err fault) (Ok more) → ⊥
-err_is_no_ok fault more is = cc
 
 walk_keeps : (s : SectionBytes) (lent : Lent) (unit : Reader) (around walked : List ℕ) (files : ℕ) (p : Input) (answer : Result (List ℕ) FileFault) (more : List ℕ) → Walk s lent unit around walked files p answer → answer ≡ Ok more → Keeps walked more
 walk_keeps s lent _ _ _ _ _ _ more (Finishes unit around walked files p is) same = λ t there. let alike : walked ≡ more = cc in subst (λ (us : List ℕ). IsTrue (is_among t us)) alike there

@@ -13,20 +13,20 @@ use Rattle.import_graph.specs.declared.walk.Visit.{Visit}
 use Rattle.import_graph.specs.Progress.{unseen, left_in, effort}
 use Rattle.import_graph.proofs.OpenLemmas.{test_is}
 
-sums_kept : (a b x y : ℕ) → a ≤ b → x ≤ y → a + x ≤ b + y
+pub sums_kept : (a b x y : ℕ) → a ≤ b → x ≤ y → a + x ≤ b + y
 sums_kept a b x y first second = omega arith
 
 sums_here : (a b x y : ℕ) → a ≤ b → x + 1 ≤ y → a + x + 1 ≤ b + y
 sums_here a b x y first second = omega arith
 
-sums_below : (a b x y : ℕ) → a + 1 ≤ b → x ≤ y → a + x + 1 ≤ b + y
+pub sums_below : (a b x y : ℕ) → a + 1 ≤ b → x ≤ y → a + x + 1 ≤ b + y
 sums_below a b x y first second = omega arith
 
 below_by : (at n : ℕ) → at < suc n → eqb at n ≡ false → ((eqb at n ≡ true) × (at ≡ n)) ⊎ ((eqb at n ≡ false) × (at ≢ n)) → at < n
 below_by at n within other (inl is) = let clash : true ≡ false = sym is.0 ∙ other in cc
 below_by at n within other (inr is) = let apart : at ≢ n = is.1 in omega arith
 
-below_other : (at n : ℕ) → at < suc n → eqb at n ≡ false → at < n
+pub below_other : (at n : ℕ) → at < suc n → eqb at n ≡ false → at < n
 below_other at n within other = below_by at n within other (eqb_tells at n)
 
 effort_by : (n a b sum u inner whole : ℕ) → b + 1 ≤ a → inner ≤ n → whole ≡ sum + (0 + u) + (0 + (inner + 1)) → b * (n + 2) + whole ≤ a * (n + 2) + sum + u

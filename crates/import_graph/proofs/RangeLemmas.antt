@@ -1,9 +1,9 @@
 -- The ranges of line tables among all paths stay what they are while paths are put behind them.
-use Rattle.std.proofs.Common.{Ordering, Less, Equal, Greater, ◌≡◌, ℕ, ◌-◌, Bool, true, false, cond, List, ◌++◌, length, take, drop, Option, Some, Ok, refl, ap, subst, sym, ◌∙◌, arith, length-append}
+use Rattle.std.proofs.Common.{◌≡◌, ℕ, ◌-◌, Bool, true, false, cond, List, ◌++◌, length, take, drop, Option, Some, Ok, refl, ap, subst, sym, ◌∙◌, arith, length-append}
 use Rattle.std.proofs.lemmas.List.{length-drop, drop-append-le, take-append-le}
 use Rattle.std.proofs.Math.Seq.{drop-append_seam, take-length}
 use Rattle.std.proofs.lemmas.Map.Lookups.{exact_unsigned}
-use Rattle.std.specs.Ordering.{is_eq, nat_cmp}
+use Rattle.std.specs.Ordering.{nat_cmp}
 use Rattle.std.specs.Map.{lookup}
 use Rattle.std.specs.BTreeMap.{BTreeMap, get, is_at}
 use Rattle.mac_base.proofs.Choices.{same_some}
@@ -12,6 +12,7 @@ use Rattle.line_names.specs.Files.{files_of}
 use Rattle.import_graph.specs.declared.meaning.FileRange.{FileRange}
 use Rattle.import_graph.specs.Numbers.{range_of, Fits}
 use Rattle.import_graph.specs.Tables.{IsRange, AreRanges}
+use Rattle.mac_base.proofs.TestLemmas.{is_equal}
 
 pub range_kept : (paths more : List (List ℕ)) (range : FileRange) → Fits paths (Some range) → range_of (paths ++ more) range ≡ range_of paths range
 range_kept paths more range fits =
@@ -38,15 +39,10 @@ pub new_is_range : (t : Tables) (paths more : List (List ℕ)) (off : ℕ) (rang
 new_is_range t paths more off range read first end =
     (read ∙ ap Ok (sym (new_range paths more range first end)), (omega (arith, length-append paths more), omega arith))
 
-equal_by : (r : Ordering) → is_eq r ≡ true → r ≡ Equal
-equal_by Less is = cc
-equal_by Equal is = refl
-equal_by Greater is = cc
-
 ranges_by : (t : Tables) (paths : List (List ℕ)) (off q : ℕ) (range at : FileRange) (old : Option FileRange) (b : Bool) → is_at (nat_cmp off) q ≡ b → IsRange t paths off range →
     (old ≡ Some at → IsRange t paths q at) → cond b (Some range) old ≡ Some at → IsRange t paths q at
 ranges_by t paths off q range at old true same is others found =
-    subst (λ (n : ℕ). IsRange t paths n at) (exact_unsigned off q (equal_by (nat_cmp off q) same)) (subst (λ (r : FileRange). IsRange t paths off r) (same_some range at found) is)
+    subst (λ (n : ℕ). IsRange t paths n at) (exact_unsigned off q (is_equal (nat_cmp off q) same)) (subst (λ (r : FileRange). IsRange t paths off r) (same_some range at found) is)
 ranges_by t paths off q range at old false same is others found = others found
 
 -- one more range is kept

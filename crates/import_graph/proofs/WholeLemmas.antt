@@ -79,7 +79,7 @@ spliced_more s lent target t units items false same splice are there = are t the
 are_more : (s : SectionBytes) (lent : Lent) (target : ℕ) (units : List ℕ) (items : List (Item (List ℕ))) → Splice s lent target items → AreSpliced s lent units → AreSpliced s lent (target ∷ units)
 are_more s lent target units items splice are = λ t there. spliced_more s lent target t units items (eqb target t) refl splice are there
 
-err_is_no_ok : (fault : FileFault) (more : List ℕ) → ◌≡◌ {A = Result (List ℕ) FileFault} (Err fault) (Ok more) → ⊥
+pub err_is_no_ok : (fault : FileFault) (more : List ℕ) → ◌≡◌ {A = Result (List ℕ) FileFault} (Err fault) (Ok more) → ⊥
 err_is_no_ok fault more is = cc
 
 walk_spliced : (s : SectionBytes) (lent : Lent) (unit : Reader) (around walked : List ℕ) (files : ℕ) (p : Input) (answer : Result (List ℕ) FileFault) (more : List ℕ) → Walk s lent unit around walked files p answer → answer ≡ Ok more → AreSpliced s lent walked →

@@ -12,13 +12,13 @@ use unit_header::UnitFault;
 #[derive(Clone, Copy, Debug, PartialEq, Eq, Error)]
 pub enum FileFault {
     /// The first fault is one of a line table.
-    #[error("line table: {0}")]
+    #[error("Line {0}")]
     Line(LineFault),
     /// The first fault is one of a macro unit.
-    #[error("macro unit: {0}")]
+    #[error("Unit {0}")]
     Unit(UnitFault),
     /// Memory ran out.
-    #[error("out of memory")]
+    #[error("NoMemory")]
     NoMemory,
 }
 

@@ -1,5 +1,5 @@
 -- The lines of roots, one root after another, and of a root's entries.
-use Rattle.std.proofs.Common.{◌≡◌, ◌⊎◌, ℕ, ◌+◌, ◌≤◌, Bool, List, [], ◌∷◌, ◌++◌, length, Some, Result, Ok, Err, inl, inr, refl, ap, subst, ◌∙◌, sym, append_assoc, arith}
+use Rattle.std.proofs.Common.{◌≡◌, ◌⊎◌, ℕ, ◌+◌, ◌≤◌, Bool, List, [], ◌∷◌, ◌++◌, Some, Result, Ok, Err, inl, inr, refl, ap, subst, ◌∙◌, sym, append_assoc}
 use Rattle.std.proofs.lemmas.List.{append-nil, flat_map_more, map-append, length-map}
 use Rattle.std.specs.Prelude.{IsErrAnd}
 use Rattle.mac_base.specs.SectionBytes.{SectionBytes}
@@ -104,7 +104,3 @@ root_told s root number graph one two three a b c is head lines = (
   graph_says s root graph is,
   told_both one two three a b c (root_line number root.name) (item_lines (named graph.paths graph.items)) head lines,
 )
-
-pub none_left : {A : Type 0} (xs : List A) → length xs ≡ 0 → xs ≡ []
-none_left [] is = refl
-none_left (x ∷ xs) is = absurd (omega arith)

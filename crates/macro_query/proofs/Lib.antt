@@ -6,7 +6,6 @@ pub mod DumpLemmas
 pub mod NamedLemmas
 pub mod PositionLemmas
 pub mod TableLemmas
-pub mod PrintLemmas
 pub mod ExpansionLemmas
 pub mod OneAnswerLemmas
 mod SaidLemmas

@@ -37,7 +37,7 @@ use Rattle.macro_query.specs.Queries.{DumpSays, LeadsTo, ByScope, ScopeSays, Inf
 use Rattle.macro_query.specs.Laws.{One}
 use Rattle.macro_query.proofs.QueryLemmas.{Said, one_file, one_same}
 use Rattle.macro_query.proofs.PositionLemmas.{Lead}
-use Rattle.macro_query.proofs.PrintLemmas.{printed, same_print}
+use Rattle.pp_tokens.proofs.PrintedLemmas.{printed, printed_unique}
 use Rattle.macro_query.proofs.DumpLemmas.{graph_says}
 
 abbrev Items : Type 0
@@ -147,7 +147,7 @@ one_list p file = one_scope (λ scope text. text ≡ Ok (list_text scope.table))
 one_line : (found : Result (List Token) ExpandFault) → One (PrintsLine found)
 one_line (Ok tokens) =
     let text = printed tokens in
-    (Ok (text.0 ++ codes "\n"), (text.0, text.1, refl), λ other is. is.2 ∙ ap (λ (t : List ℕ). Ok (t ++ codes "\n")) (same_print tokens is.0 text.0 is.1 text.1))
+    (Ok (text.0 ++ codes "\n"), (text.0, text.1, refl), λ other is. is.2 ∙ ap (λ (t : List ℕ). Ok (t ++ codes "\n")) (printed_unique tokens is.0 text.0 is.1 text.1))
 one_line (Err fault) = one_same (Err (Expand fault))
 
 one_by_tokens : (Rules : List Token → Result (List Token) ExpandFault → Type 0) → ((tokens : List Token) → One (Rules tokens)) → (read : Result (List Token) LexFault) → One (ByTokens Rules read)

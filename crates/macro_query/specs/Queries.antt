@@ -31,7 +31,7 @@ UnitSays strs section offset (Err (Expand fault)) = ⊥
 UnitSays strs section offset (Err ReportTooLong) = ⊥
 UnitSays strs section offset (Err RanOut) = ⊥
 
--- `raw`: of the unit at the front of these bytes
+-- `raw`: of the unit at the start of these bytes
 abbrev pub RawSays : List ℕ → Result (List ℕ) QueryFault → Type 0
 RawSays bytes said = UnitSays None bytes 0 said
 

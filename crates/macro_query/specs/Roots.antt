@@ -44,11 +44,11 @@ root_line number name = codes "root" ++ codes " " ++ decimal number ++ codes " "
 abbrev pub root_lines : ℕ → Root → List (Item (List ℕ)) → List ℕ
 root_lines number root items = root_line number root.name ++ item_lines items
 
--- a text, and behind it what is said of the rest
+-- a text, and after it what is said of the rest
 abbrev pub joined : List ℕ → Result (List ℕ) QueryFault → Result (List ℕ) QueryFault
 joined front rest = rest >>= λ text. Ok (front ++ text)
 
--- a root's lines and what is said of the roots behind it, or its first fault
+-- a root's lines and what is said of the roots after it, or its first fault
 abbrev pub ThenSays : Result (List (Item (List ℕ))) FileFault → (List (Item (List ℕ)) → List ℕ) → (Result (List ℕ) QueryFault → Type 0) → Result (List ℕ) QueryFault → Type 0
 ThenSays (Ok items) lines More said = (rest : Result (List ℕ) QueryFault) × More rest × (said ≡ joined (lines items) rest)
 ThenSays (Err fault) lines More said = said ≡ Err (file_fault fault)

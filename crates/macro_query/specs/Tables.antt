@@ -17,7 +17,7 @@ innermost (file ∷ inner ∷ files) = innermost (inner ∷ files)
 abbrev pub included_at : List ℕ × ℕ → List ℕ × ℕ → List ℕ
 included_at outer file = codes "  included at " ++ outer.0 ++ codes ":" ++ decimal file.1 ++ codes "\n"
 
--- where each of these files but the outermost, which stands first, is included, the innermost first
+-- where each of these files but the outermost, which is first, is included, the innermost first
 abbrev pub inclusions : List (List ℕ × ℕ) → List ℕ
 inclusions [] = []
 inclusions (file ∷ []) = []
@@ -27,7 +27,7 @@ inclusions (outer ∷ file ∷ files) = inclusions (file ∷ files) ++ included_
 abbrev pub define_line : List ℕ → List ℕ
 define_line text = codes "#define " ++ text ++ codes "\n"
 
--- where a definition stands
+-- where a definition is
 abbrev pub defined_at : List (List ℕ × ℕ) → ℕ → List ℕ
 defined_at files line = codes "Defined at " ++ innermost files ++ codes ":" ++ decimal line ++ codes "\n"
 

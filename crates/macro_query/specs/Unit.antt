@@ -46,7 +46,7 @@ pub record IsReportOf (strs : Option (List ℕ)) (section : List ℕ) (offset : 
 abbrev pub FailsAt : Option (List ℕ) → Header → Input → UnitFault → Type 0
 FailsAt strs h p fault = (entry_at h p ≡ Err fault) ⊎ ((e : Entry) × (q : Input) × (entry_at h p ≡ Ok (Some e, q)) × (shown strs e ≡ Err fault))
 
--- the header is read and so are these entries, none with a fault, and the entry behind them has this one
+-- the header is read and so are these entries, none with a fault, and the entry after them has this one
 pub record FailsBehind (strs : Option (List ℕ)) (section : List ℕ) (offset : ℕ) (fault : UnitFault) : Type 0 where
   pub header : Header
   pub start : Input
@@ -58,6 +58,6 @@ pub record FailsBehind (strs : Option (List ℕ)) (section : List ℕ) (offset :
   pub are_shown : AreShown strs entries lines
   pub fails : FailsAt strs header place fault
 
--- the first fault of what stands at the offset
+-- the first fault of what is at the offset
 abbrev pub IsFirstFault : Option (List ℕ) → List ℕ → ℕ → UnitFault → Type 0
 IsFirstFault strs section offset fault = (header_at (record { bytes = section; at = offset }) ≡ Err fault) ⊎ FailsBehind strs section offset fault

@@ -27,7 +27,7 @@ name_of Listed byte = codes "vendor " ++ hex byte
 abbrev pub head_of : ℕ → ℕ → List ℕ
 head_of at opcode = hex at ++ codes " " ++ name_of (opcode_by_byte opcode) opcode
 
--- behind a space each: the line in decimal, and a text as it is, an index in decimal or an offset in hexadecimal
+-- after a space each: the line in decimal, and a text as it is, an index in decimal or an offset in hexadecimal
 abbrev pub tail_of : ℕ → Operand → List ℕ
 tail_of line None = []
 tail_of line (File index) = codes " " ++ decimal line ++ codes " " ++ decimal index

@@ -22,7 +22,7 @@ use mac_base::{
 };
 use std::alloc::Global;
 
-/// All roots of an ELF file in their order, each with its entries, where imported units stand in their places, or the
+/// All roots of an ELF file in their order, each with its entries, where imported units are in their places, or the
 /// first fault: of the file's headers or sections, of `.debug_info`, or of the first root that has one (DWARF 5, 6.3).
 pub fn dump(alloc: Global, file: &[u8]) -> Result<Bytes, QueryFault>
     ensures { Answers result (DumpSays file.now) }

@@ -19,34 +19,34 @@ use unit_header::UnitFault;
 #[derive(Debug, Drop, Error)]
 pub enum QueryFault {
     /// The first fault of the file's headers or sections.
-    #[error("{0}")]
+    #[error("Elf {0}")]
     Elf(ElfFault),
     /// The first fault of `.debug_info`.
-    #[error("roots: {0}")]
+    #[error("Info {0}")]
     Info(InfoFault),
     /// The first fault of a line table.
-    #[error("line table: {0}")]
+    #[error("Line {0}")]
     Line(LineFault),
     /// The first fault of a macro unit.
-    #[error("macro unit: {0}")]
+    #[error("Unit {0}")]
     Unit(UnitFault),
     /// The file has no root with this number.
-    #[error("there is no such root")]
+    #[error("NoSuchUnit")]
     NoSuchUnit,
     /// The root has no such position.
     #[error("{0}")]
     Position(PosFault),
     /// The text that is to be expanded has no tokens.
-    #[error("{0}")]
+    #[error("Text {0}")]
     Text(LexFault),
     /// The text has no expansion.
-    #[error("{0}")]
+    #[error("Expand {0}")]
     Expand(ExpandFault),
     /// There is no fault, and the report has more than 1,073,741,824 bytes.
-    #[error("the report is too long")]
+    #[error("ReportTooLong")]
     ReportTooLong,
     /// Memory ran out.
-    #[error("out of memory")]
+    #[error("no memory")]
     NoMemory,
 }
 

@@ -59,7 +59,7 @@ impl<'a> StringSection<'a> {
     }
 }
 
-/// No string stands at the offset that the entry at this place names.
+/// No string is at the offset that the entry at this place names.
 fn no_string(at: u64) -> UnitFault
     ensures { result ≡ record { at = at; what = UnitKind.StrRange } }
 {

@@ -19,7 +19,7 @@ use macro_table::{Entry, Table};
 use position_table::Position;
 use std::alloc::Global;
 
-/// The definition of a name that holds at a position of an ELF file: where it stands, the inclusions that lead there from
+/// The definition of a name that holds at a position of an ELF file: where it is, the inclusions that lead there from
 /// the innermost outwards, and its text; or that the name has none. Faults come in this order: the file's headers and
 /// sections, `.debug_info`, `NoSuchUnit`, the root's macro information, the position (DWARF 5, 6.3).
 pub fn info(
@@ -118,7 +118,7 @@ fn push_info(
     }
 }
 
-/// Appends where a definition stands, and its text.
+/// Appends where a definition is, and its text.
 fn push_found(text: &mut Vec<u8>, graph: &Graph<'_>, entry: &Entry) -> Result<(), NoMemory>
     ensures { OnOk result (text.new.items ≡ text.old.items ++ found_text graph.now.paths entry.now) }
 {

@@ -22,7 +22,7 @@ use std::marker::Brand;
 use std::sync::ledger::{Blank, Ledger};
 use unit_header::{UnitFault, UnitKind, read_header};
 
-/// The report on the macro unit at the front of these bytes, or its first fault (DWARF 5, 6.3.1).
+/// The report on the macro unit at the start of these bytes, or its first fault (DWARF 5, 6.3.1).
 pub fn raw(alloc: Global, bytes: &[u8]) -> Result<Bytes, QueryFault>
     ensures { Answers result (RawSays bytes.now) }
 {

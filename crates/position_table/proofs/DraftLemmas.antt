@@ -13,7 +13,7 @@ use Rattle.mac_base.specs.Names.{name_of}
 use Rattle.mac_base.specs.declared.frames.Frame.{Frame}
 use Rattle.macro_table.specs.Tables.{EntryValue, TableOf}
 use Rattle.mac_base.specs.Items.{Define, Undef, Start, End}
-use Rattle.macro_table.proofs.TableLemmas.{inserted, removed}
+use Rattle.mac_base.proofs.TableLemmas.{inserted, removed}
 use Rattle.position_table.specs.declared.files.FileId.{FileId}
 use Rattle.position_table.specs.declared.draft.Definition.{Definition}
 use Rattle.position_table.specs.Files.{frames_of}

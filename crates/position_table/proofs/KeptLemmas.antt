@@ -3,7 +3,7 @@ use Rattle.std.proofs.Common.{◌≡◌, ℕ, zero, suc, ◌<◌, Bool, true, fa
 use Rattle.std.specs.Borrow.{Bor}
 use Rattle.std.specs.Option.{option_or}
 use Rattle.std.specs.declared.cmp.Ordering.{Ordering}
-use Rattle.std.specs.declared.cmp.Ordering.TheVariants.{Less, Equal, Greater}
+use Rattle.std.specs.declared.cmp.Ordering.TheVariants.{Less}
 use Rattle.std.specs.Ordering.{is_eq, eq_by_cmp}
 use Rattle.std.specs.Cmp.Lexicographic.{nat_list_cmp_total}
 use Rattle.std.specs.List.{AllByRecursion}
@@ -16,6 +16,7 @@ use Rattle.macro_table.specs.Tables.{EntryValue, TableOf}
 use Rattle.position_table.specs.declared.draft.Definition.{Definition}
 use Rattle.position_table.specs.Standing.{value_in, table_in, AreKept}
 use Rattle.position_table.proofs.DraftLemmas.{order, Kept, by_name}
+use Rattle.mac_base.proofs.TestLemmas.{is_equal}
 
 -- a table with these definitions more
 abbrev pub put_all : List (List Frame) → TableOf ℕ → List Definition → TableOf ℕ
@@ -36,11 +37,6 @@ kept_within n (e ∷ es) (suc k) d are is = kept_within n es k d are.1 is
 abbrev pub keyed : List (List Frame) → Kept → List (List ℕ × EntryValue ℕ)
 keyed files es = map {B = List ℕ × EntryValue ℕ} (λ (e : Bor (List ℕ) × Definition). (e.0.now, value_in files e.1)) es
 
-equal : (o : Ordering) → is_eq o ≡ true → o ≡ Equal
-equal Less is = cc
-equal Equal is = refl
-equal Greater is = cc
-
 -- a name before all others is none of them
 apart : (files : List (List Frame)) (k : Bor (List ℕ)) (es : Kept) → AllByRecursion (λ y. by_name k y ≡ Less) (keys_of es) → finite.find order k.now (keyed files es) ≡ None
 apart files k [] are = refl
@@ -60,7 +56,7 @@ found_all files n table (e ∷ es) q rises are =
     ∙ ap (option_or (finite.find order q (keyed files es)))
     (ap (λ (k : List ℕ). finite.get (finite.insert table k (value_in files e.1)) q) (sym are.0.1) ∙ finite.get-insert nat_list_cmp_total table e.0.now (value_in files e.1) q)
     ∙ turned (eq_by_cmp order q e.0.now) (value_in files e.1) (finite.find order q (keyed files es)) (finite.get table q)
-    (λ is. ap (λ (k : List ℕ). finite.find order k (keyed files es)) (finite.slice_cmp-IsAntisymmetric finite.nat_cmp-IsAntisymmetric q e.0.now (equal (order q e.0.now) is)) ∙ apart files e.0 es rises.0)
+    (λ is. ap (λ (k : List ℕ). finite.find order k (keyed files es)) (finite.slice_cmp-IsAntisymmetric finite.nat_cmp-IsAntisymmetric q e.0.now (is_equal (order q e.0.now) is)) ∙ apart files e.0 es rises.0)
 
 or_none : (o : Option (EntryValue ℕ)) → option_or o None ≡ o
 or_none None = refl

@@ -1,5 +1,4 @@
 pub mod ScanLemmas
-pub mod NumberLemmas
 pub mod FileLemmas
 pub mod DraftLemmas
 pub mod TableLemmas

@@ -7,22 +7,16 @@ use Rattle.std.proofs.lemmas.List.Folds.{list_all-append}
 use Rattle.std.proofs.lemmas.List.Sums.{prefix_len_stops}
 use Rattle.std.proofs.lemmas.List.Splits.{join_with_byte-slice_split}
 use Rattle.std.proofs.lemmas.Bool.Decides.{nat_tests}
+use Rattle.std.proofs.lemmas.Bool.{and_from}
 use Rattle.position_table.specs.declared.position.Position.{Position}
 use Rattle.position_table.specs.declared.position.Position.TheVariants.{Chain, Named}
 use Rattle.position_table.specs.Positions.{is_colon, is_digit, digits_value, largest_number, begins_well, is_number, number_of, numbers_of, chain_of, is_path, named_by, named_of, position_of}
 use Rattle.position_table.specs.Laws.{IsNoChain, Spells, AsChain, AsPath}
+use Rattle.mac_base.proofs.TestLemmas.{and_first, and_second}
 
 -- a digit is no colon
 digit_apart : (byte : ℕ) → is_digit byte ≡ true → is_colon byte ≡ false
 digit_apart byte is = grind (arith, nat_tests)
-
-both_first : (a b : Bool) → (a && b) ≡ true → a ≡ true
-both_first true b is = refl
-both_first false b is = cc
-
-both_second : (a b : Bool) → (a && b) ≡ true → b ≡ true
-both_second true b is = is
-both_second false b is = cc
 
 if_some : {A : Type 0} (t : Bool) (x y : A) → cond t (Some x) None ≡ Some y → (t ≡ true) × (x ≡ y)
 if_some true x y is = (refl, cc)
@@ -31,20 +25,20 @@ if_some false x y is = cc
 -- a number has digits only
 number_digits : (field : List ℕ) (n : ℕ) → number_of field ≡ Some n → list_all is_digit field ≡ true
 number_digits field n is =
-    both_second (begins_well field) (list_all is_digit field) (both_first (begins_well field && list_all is_digit field) (leb (digits_value field) largest_number) (if_some (is_number field) (digits_value field) n is).0)
+    and_second (begins_well field) (list_all is_digit field) (and_first (begins_well field && list_all is_digit field) (leb (digits_value field) largest_number) (if_some (is_number field) (digits_value field) n is).0)
 
 -- digits up to a colon are a field
 split_digits : (field rest : List ℕ) → list_all is_digit field ≡ true → slice_split is_colon (field ++ 58 ∷ rest) ≡ field ∷ slice_split is_colon rest
 split_digits [] rest are = refl
 split_digits (d ∷ ds) rest are =
-    ap (λ (t : Bool). cond t ([] ∷ slice_split is_colon (ds ++ 58 ∷ rest)) (onto_first d (slice_split is_colon (ds ++ 58 ∷ rest)))) (digit_apart d (both_first (is_digit d) (list_all is_digit ds) are))
-    ∙ ap (onto_first d) (split_digits ds rest (both_second (is_digit d) (list_all is_digit ds) are))
+    ap (λ (t : Bool). cond t ([] ∷ slice_split is_colon (ds ++ 58 ∷ rest)) (onto_first d (slice_split is_colon (ds ++ 58 ∷ rest)))) (digit_apart d (and_first (is_digit d) (list_all is_digit ds) are))
+    ∙ ap (onto_first d) (split_digits ds rest (and_second (is_digit d) (list_all is_digit ds) are))
 
 split_last : (field : List ℕ) → list_all is_digit field ≡ true → slice_split is_colon field ≡ field ∷ []
 split_last [] are = refl
 split_last (d ∷ ds) are =
-    ap (λ (t : Bool). cond t ([] ∷ slice_split is_colon ds) (onto_first d (slice_split is_colon ds))) (digit_apart d (both_first (is_digit d) (list_all is_digit ds) are))
-    ∙ ap (onto_first d) (split_last ds (both_second (is_digit d) (list_all is_digit ds) are))
+    ap (λ (t : Bool). cond t ([] ∷ slice_split is_colon ds) (onto_first d (slice_split is_colon ds))) (digit_apart d (and_first (is_digit d) (list_all is_digit ds) are))
+    ∙ ap (onto_first d) (split_last ds (and_second (is_digit d) (list_all is_digit ds) are))
 
 number_parts : (first : Option ℕ) (later : Option (List ℕ)) (ns : List ℕ) → option_and_then (λ n. option_map (λ (ns : List ℕ). n ∷ ns) later) first ≡ Some ns → (n : ℕ) × (ms : List ℕ) × (first ≡ Some n) × (later ≡ Some ms)
 number_parts None later ns is = cc
@@ -109,19 +103,15 @@ chain_named (x ∷ y ∷ more) path line is =
 prefix_stop : (ds rest : List ℕ) → list_all is_digit ds ≡ true → prefix_len (λ byte. not (is_colon byte)) (ds ++ 58 ∷ rest) ≡ length ds
 prefix_stop [] rest are = refl
 prefix_stop (d ∷ ds) rest are =
-    let later : prefix_len (λ byte. not (is_colon byte)) (ds ++ 58 ∷ rest) ≡ length ds = prefix_stop ds rest (both_second (is_digit d) (list_all is_digit ds) are) in
+    let later : prefix_len (λ byte. not (is_colon byte)) (ds ++ 58 ∷ rest) ≡ length ds = prefix_stop ds rest (and_second (is_digit d) (list_all is_digit ds) are) in
     let more : 1 + prefix_len (λ byte. not (is_colon byte)) (ds ++ 58 ∷ rest) ≡ suc (length ds) = omega arith in
-    ap (λ (t : Bool). cond (not t) (1 + prefix_len (λ byte. not (is_colon byte)) (ds ++ 58 ∷ rest)) 0) (digit_apart d (both_first (is_digit d) (list_all is_digit ds) are)) ∙ more
-
-both_true : (a b : Bool) → a ≡ true → b ≡ true → (a && b) ≡ true
-both_true true b is also = also
-both_true false b is also = cc
+    ap (λ (t : Bool). cond (not t) (1 + prefix_len (λ byte. not (is_colon byte)) (ds ++ 58 ∷ rest)) 0) (digit_apart d (and_first (is_digit d) (list_all is_digit ds) are)) ∙ more
 
 digits_reverse : (ds : List ℕ) → list_all is_digit ds ≡ true → list_all is_digit (reverse ds) ≡ true
 digits_reverse [] are = refl
 digits_reverse (d ∷ ds) are =
     ap (list_all is_digit) (reverse-append (d ∷ []) ds) ∙ list_all-append is_digit (reverse ds) (d ∷ [])
-    ∙ both_true (list_all is_digit (reverse ds)) (is_digit d && true) (digits_reverse ds (both_second (is_digit d) (list_all is_digit ds) are)) (both_true (is_digit d) true (both_first (is_digit d) (list_all is_digit ds) are) refl)
+    ∙ and_from (list_all is_digit (reverse ds)) (is_digit d && true) (digits_reverse ds (and_second (is_digit d) (list_all is_digit ds) are)) (and_from (is_digit d) true (and_first (is_digit d) (list_all is_digit ds) are) refl)
 
 -- what stands behind the last colon
 suffix_is : (path field : List ℕ) → list_all is_digit field ≡ true → suffix_len (λ byte. not (is_colon byte)) (path ++ 58 ∷ field) ≡ length field

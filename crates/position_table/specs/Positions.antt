@@ -1,8 +1,8 @@
 -- Positions as text. `u:l1:..:lk:l` is line l of the file that is included in line lk of the one that is included in line l1 .. of the primary file of root u; any other text is `PATH:LINE`.
-use Rattle.std.specs.Prelude.{ℕ, ◌+◌, ◌-◌, ◌*◌, ◌==◌, nat_le, nat_lt, Bool, true, false, not, ◌&&◌, if◌then◌else◌, List, [], ◌∷◌, length, fold, slice_index, slice_range, Option, Some, None, option_and_then}
+use Rattle.std.specs.Prelude.{ℕ, ◌-◌, ◌==◌, nat_le, nat_lt, Bool, true, false, not, ◌&&◌, if◌then◌else◌, List, [], ◌∷◌, length, slice_index, slice_range, Option, Some, None, option_and_then}
 use Rattle.std.specs.Option.{option_map, option_or}
 use Rattle.std.specs.List.{list_all, slice_split, before_last, after_last}
-use Rattle.mac_base.specs.Names.{is_between}
+use Rattle.mac_base.specs.Digits.{is_digit_of, spelled_in}
 use Rattle.position_table.specs.declared.position.Position.{Position}
 use Rattle.position_table.specs.declared.position.Position.TheVariants.{Chain, Named}
 
@@ -12,7 +12,7 @@ is_colon byte = byte == 58
 
 -- a decimal digit
 abbrev pub is_digit : ℕ → Bool
-is_digit byte = is_between 48 57 byte
+is_digit = is_digit_of 10
 
 -- the largest number of a position
 abbrev pub largest_number : ℕ
@@ -20,7 +20,7 @@ largest_number = 4294967295
 
 -- the number that a row of digits spells
 abbrev pub digits_value : List ℕ → ℕ
-digits_value digits = fold (λ value digit. value * 10 + (digit - 48)) 0 digits
+digits_value = spelled_in 10
 
 -- a digit at least, and no zero before another one
 abbrev pub begins_well : List ℕ → Bool

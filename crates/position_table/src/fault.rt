@@ -10,10 +10,10 @@ use thiserror::Error;
 #[derive(Clone, Copy, Debug, PartialEq, Eq, Error)]
 pub enum PositionText {
     /// It is neither a chain of numbers nor a path with a line.
-    #[error("no position")]
+    #[error("Bad")]
     Bad,
     /// Memory ran out.
-    #[error("out of memory")]
+    #[error("NoMemory")]
     NoMemory,
 }
 
@@ -29,13 +29,13 @@ impl From<NoMemory> for PositionText {
 #[derive(Clone, Copy, Debug, PartialEq, Eq, Error)]
 pub enum PosFault {
     /// A file of the chain is missing.
-    #[error("no such position")]
+    #[error("NoSuchPosition depth {depth}")]
     NoSuchPosition {
         /// How many files of the chain there are.
         depth: u32,
     },
     /// Memory ran out.
-    #[error("out of memory")]
+    #[error("NoMemory")]
     NoMemory,
 }
 

@@ -1,10 +1,12 @@
 ghost use Rattle.std.specs.Prelude.{◌≡◌, ℕ, Bool, nat_le, ◌&&◌, if◌then◌else◌};
 ghost use Rattle.std.specs.List.{list_all};
-ghost use Rattle.position_table.specs.Positions.{is_digit, digits_value, largest_number, begins_well, number_of};
+ghost use Rattle.position_table.specs.Positions.{is_digit, digits_value, largest_number, begins_well, number_of as number_said};
+
+use mac_base::number_of;
 
 /// The number that a field is, if it is one: decimal, at most 4,294,967,295, without needless zeros.
 pub fn number(field: &[u8]) -> Option<u32>
-    ensures { result ≡ number_of field.now }
+    ensures { result ≡ number_said field.now }
 {
     if begins_well(field) {
         value(field)
@@ -28,14 +30,5 @@ fn begins_well(field: &[u8]) -> bool
 fn value(digits: &[u8]) -> Option<u32>
     ensures { result ≡ (if list_all is_digit digits.now && nat_le (digits_value digits.now) largest_number then Some (digits_value digits.now) else None) }
 {
-    let mut value: u32 = 0;
-    for digit in digits {
-        if !digit.is_ascii_digit() {
-            return None;
-        }
-        value = value
-            .checked_mul(10)?
-            .checked_add(u32::from(*digit - b'0'))?;
-    }
-    Some(value)
+    u32::try_from(number_of(10, digits)?).ok()
 }

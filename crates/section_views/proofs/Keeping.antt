@@ -13,6 +13,7 @@ use Rattle.section_views.specs.Members.{name_at, kept_of, entry_of, AreFirst}
 use Rattle.section_views.proofs.Finding.{find_more}
 use Rattle.section_views.proofs.Firsts.{header_at-number}
 use Rattle.section_views.proofs.Places.{no_any, names_apart, one_text}
+use Rattle.mac_base.proofs.Choices.{none_there}
 
 -- section n has the name at place k, and contents, and belongs to no group
 abbrev pub stands : List ℕ → ℕ → ℕ → Bool
@@ -60,14 +61,6 @@ stands_once file n j k low high apart holds =
       | inr not ↦ not
     ]
 
-mapped_none : {A B : Type 0} (f : A → B) (o : Option A) → None ≡ option_map f o → o ≡ None
-mapped_none f None none = refl
-mapped_none f (Some x) none = cc
-
-empty : {A : Type 0} (o : Option A) → is_some o ≡ false → o ≡ None
-empty None none = refl
-empty (Some x) none = cc
-
 same_some : {A B C : Type 0} (f : A → C) (g : B → C) (o : Option A) (u : Option B) → option_map f o ≡ option_map g u → is_some o ≡ is_some u
 same_some f g None None same = refl
 same_some f g None (Some y) same = cc
@@ -85,7 +78,7 @@ AreFirst-passed file n members low are none = λ k within. are k within ∙ ap (
 -- the first section of a name is kept
 put_here : (file : List ℕ) (n : ℕ) (members more : Members) (p : ℕ) (member : Member) → 1 ≤ n → AreFirst file n members → p < 7 → stands file n p ≡ true → is_some (get_or members.at p None) ≡ false → get_or more.at p None ≡ Some member → kept_of member ≡ (n, contents_of file (header_at file n)) → option_map kept_of (get_or more.at p None) ≡ option_map (entry_of file) (first_member file (n + 1) (name_at p))
 put_here file n members more p member low are within holds free here kept =
-    let none : first_member file n (name_at p) ≡ None = empty (first_member file n (name_at p)) (sym (AreFirst-some file n members p are within) ∙ free) in
+    let none : first_member file n (name_at p) ≡ None = none_there (first_member file n (name_at p)) (sym (AreFirst-some file n members p are within) ∙ free) in
     let entry : (n, contents_of file (header_at file n)) ≡ entry_of file (header_at file n) = ap (λ (m : ℕ). (m, contents_of file (header_at file n))) (sym (header_at-number file n)) in
     ap (option_map kept_of) here ∙ ap (λ (x : ℕ × List ℕ). Some x) (kept ∙ entry) ∙ ap (option_map (entry_of file)) (sym (first_member-taken file n p low holds none))
 
@@ -98,12 +91,12 @@ AreFirst-put file n members more p member low are within holds free here others 
       | inr other ↦ ap (option_map kept_of) (others k other) ∙ are k below ∙ ap (option_map (entry_of file)) (sym (first_member-passed file n k low (stands_once file n k p below within other holds)))
     ]
 
--- where a section stands, from its header and the names as they were read
+-- where a section is, from its header and the names as they were read
 pub stands-read : (file names : List ℕ) (n k : ℕ) (s : SectionHeader) (t : Bool) → names ≡ names_of file → s ≡ header_at file n → is_member names (name_at k) s ≡ t → stands file n k ≡ t
 stands-read file names n k s t same header is =
     ap (λ (text : List ℕ). is_member text (name_at k) (header_at file n)) (sym same) ∙ ap (is_member names (name_at k)) (sym header) ∙ is
 
--- what a section does that stands at no place, and what one does that is the first of its name
+-- what a section does that is at no place, and what one does that is the first of its name
 pub is_second-other : (file : List ℕ) (n : ℕ) → ((k : ℕ) → k < 7 → stands file n k ≡ false) → is_second file (header_at file n) ≡ false
 is_second-other file n none = is_second-not file n (λ k within. and_left (stands file n k) (is_some (first_member file n (name_at k))) (none k within))
 
@@ -117,7 +110,7 @@ is_second-first file n members p are within holds free =
       | inr other ↦ and_left (stands file n k) (is_some (first_member file n (name_at k))) (stands_once file n k p below within other holds)
     ])
 
--- the contents of a section that stands at a place are its own
+-- the contents of a section that is at a place are its own
 pub stands-contents : (file : List ℕ) (n k : ℕ) → stands file n k ≡ true → has_contents (header_at file n) ≡ true
 stands-contents file n k holds =
     let s = header_at file n in

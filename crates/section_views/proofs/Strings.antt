@@ -1,18 +1,12 @@
 -- Strings and their NULs in a table of strings.
-use Rattle.std.proofs.Common.{◌≡◌, ℕ, Bool, true, false, not, ◌&&◌, eqb, cond, List, [], ◌∷◌, length, take, drop, Option, Some, None, refl, ap, sym, ◌∙◌, inl, inr}
+use Rattle.std.proofs.Common.{◌≡◌, ℕ, Bool, true, false, not, ◌&&◌, eqb, cond, List, [], ◌∷◌, length, take, drop, Option, Some, None, refl, ap, sym, ◌∙◌}
 use Rattle.std.specs.List.{list_all, starts_with}
 use Rattle.std.specs.Option.{option_map}
 use Rattle.std.specs.Cmp.Lexicographic.{pointwise}
-use Rattle.std.proofs.lemmas.Bool.{cases_Bool, eqb-true, eqb-false, eq-eqb, ne_eqb, and_parts, not-true}
+use Rattle.std.proofs.lemmas.Bool.{eqb-true, and_parts, not-true}
 use Rattle.mac_base.specs.Fields.{before_nul}
 use Rattle.section_views.specs.Family.{is_text}
-
-eqb_turned : (a b : ℕ) → eqb a b ≡ eqb b a
-eqb_turned a b =
-    elim (cases_Bool (eqb a b)) [
-      | inl same ↦ same ∙ sym (eq-eqb b a (sym (eqb-true a b same)))
-      | inr apart ↦ apart ∙ sym (ne_eqb b a (λ same. eqb-false a b apart (sym same)))
-    ]
+use Rattle.mac_base.proofs.TestLemmas.{eqb_swapped}
 
 and_false : (t : Bool) → false ≡ (t && false)
 and_false true = refl
@@ -38,15 +32,15 @@ other_text : (q b : ℕ) (qs : List ℕ) (t u v : Bool) (o : Option (List ℕ)) 
 other_text q b qs true u v o nul no_nul same =
     let zero_byte : b ≡ 0 = eqb-true b 0 nul in
     let apart : eqb q b ≡ false = ap (eqb q) zero_byte ∙ not-true (eqb q 0) no_nul in
-    let turned : eqb b q ≡ false = eqb_turned b q ∙ apart in
+    let turned : eqb b q ≡ false = eqb_swapped b q ∙ apart in
     rw turned refl
 other_text q b qs false u v o nul no_nul same =
-    text_more q b qs o ∙ ap (λ t. eqb q b && t) same ∙ and_assoc (eqb q b) u v ∙ ap (λ t. (t && u) && v) (eqb_turned q b)
+    text_more q b qs o ∙ ap (λ t. eqb q b && t) same ∙ and_assoc (eqb q b) u v ∙ ap (λ t. (t && u) && v) (eqb_swapped q b)
 
--- a text without a NUL is the string in front exactly where its bytes and a NUL stand there
+-- a text without a NUL is the string in front exactly where its bytes and a NUL are there
 pub is_text-front : (text bytes : List ℕ) → list_all (λ b. not (eqb b 0)) text ≡ true → is_text text (before_nul bytes) ≡ (pointwise eqb (take (length text) bytes) text && starts_with eqb (drop (length text) bytes) (0 ∷ []))
 is_text-front [] [] no_nul = refl
-is_text-front [] (b ∷ bs) no_nul = no_text (eqb b 0) b (before_nul bs) ∙ ap (λ t. t && true) (eqb_turned b 0)
+is_text-front [] (b ∷ bs) no_nul = no_text (eqb b 0) b (before_nul bs) ∙ ap (λ t. t && true) (eqb_swapped b 0)
 is_text-front (q ∷ qs) [] no_nul = refl
 is_text-front (q ∷ qs) (b ∷ bs) no_nul =
     let parts = and_parts (not (eqb q 0)) (list_all (λ b. not (eqb b 0)) qs) no_nul in

@@ -14,6 +14,7 @@ use Rattle.section_views.specs.View.{is_family_name, number_of}
 use Rattle.section_views.specs.Laws.{IsOfName}
 use Rattle.section_views.proofs.Finding.{find_hit, find_found}
 use Rattle.section_views.proofs.Firsts.{header_at-number, at_first-miss, range_fault-inside}
+use Rattle.mac_base.proofs.Choices.{none_there}
 
 -- neither is a fault
 neither : {A : Type 0} (o u : Option A) → option_or o u ≡ None → (o ≡ None) × (u ≡ None)
@@ -28,10 +29,6 @@ no_range_fault file none = (neither (range_fault file) _ (behind_table file none
 
 no_second_fault : (file : List ℕ) → first_fault file ≡ None → second_fault file ≡ None
 no_second_fault file none = (neither (second_fault file) None (neither (compression_fault file) _ (neither (name_fault file) _ (neither (range_fault file) _ (behind_table file none)).1).1).1).0
-
-empty : {A : Type 0} (o : Option A) → is_some o ≡ false → o ≡ None
-empty None none = refl
-empty (Some x) none = cc
 
 none_twice : (file : List ℕ) (n : ℕ) → second_fault file ≡ None → 1 ≤ n → n < section_count file → is_second file (header_at file n) ≡ false
 unfolding second_fault
@@ -69,6 +66,6 @@ there_is_given file name n none family there =
       | inl earlier ↦
           absurd (both_ways (is_second file (header_at file n)) (none_twice file n (no_second_fault file none) there.low there.high) (second_of_name file name n family there.named earlier))
       | inr first ↦
-          let hit = find_hit (header_at file) (is_member (names_of file) name) n (section_count file) there.low there.high (empty (first_member file n name) first) there.named in
+          let hit = find_hit (header_at file) (is_member (names_of file) name) n (section_count file) there.low there.high (none_there (first_member file n name) first) there.named in
           rw (family, hit) (ap (λ (k : ℕ). Some k) (header_at-number file n))
     ]

@@ -5,34 +5,34 @@ use thiserror::Error;
 #[derive(Clone, Copy, Debug, PartialEq, Eq, Error)]
 pub enum ElfFault {
     /// The file has fewer than 64 bytes or doesn't begin with `7f 45 4c 46`.
-    #[error("no ELF file")]
+    #[error("NotElf")]
     NotElf,
     /// The file isn't a 64-bit one.
-    #[error("no 64-bit ELF file")]
+    #[error("Class")]
     Class,
     /// Numbers don't have the lowest byte first.
-    #[error("an ELF file with the highest byte first")]
+    #[error("Order")]
     Order,
     /// The file is neither an executable nor a shared object.
-    #[error("no linked ELF file")]
+    #[error("Kind")]
     Kind,
     /// The file has more sections than its header can count.
-    #[error("an ELF file with extended section numbers")]
+    #[error("Extended")]
     Extended,
     /// The table of sections has entries of another size than 64 bytes, which the header says at `at`, 58, or it
     /// begins at `at` and isn't inside the file.
-    #[error("no table of sections, by the bytes at {at:#x}")]
+    #[error("Table at {at:#x}")]
     Table { at: u64 },
     /// The contents of section `n` aren't inside the file.
-    #[error("section {n} isn't inside the file")]
+    #[error("Range section {n}")]
     Range { n: u32 },
     /// Section `n`, which is to hold the names, is none or no string table, or section `n` has no name in it.
-    #[error("no name for section {n}")]
+    #[error("Name section {n}")]
     Name { n: u32 },
     /// Section `n` belongs to the family and is compressed.
-    #[error("section {n} is compressed")]
+    #[error("Compressed section {n}")]
     Compressed { n: u32 },
     /// Section `n` belongs to the family and to no group, and so does an earlier one of its name.
-    #[error("section {n} is the second of its name")]
+    #[error("Twice section {n}")]
     Twice { n: u32 },
 }

@@ -103,7 +103,7 @@ fn linked(alloc: Global) -> Result<Vec<u8>, Fail> {
     )
 }
 
-/// Where the table of sections of that file begins, and where entries of it stand.
+/// Where the table of sections of that file begins, and where entries of it are.
 const TABLE: usize = 176;
 
 const MACRO: usize = TABLE + 64;
@@ -121,7 +121,7 @@ const ABBREV: usize = TABLE + 64 * 6;
 /// Where the last byte of the names is.
 const LAST_NUL: usize = 173;
 
-/// Where fields stand in an entry of the table.
+/// Where fields are in an entry of the table.
 const TYPE: usize = 4;
 
 const FLAGS: usize = 8;

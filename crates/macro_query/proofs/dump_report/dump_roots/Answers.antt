@@ -1,8 +1,9 @@
 use Rattle.std.proofs.Common.{◌++◌, [], List, length, ap, subst, arith}
+use Rattle.std.proofs.lemmas.List.{nil_from_length}
 use Rattle.mac_base.specs.SectionBytes.{bytes_of}
 use Rattle.info_roots.specs.declared.root.Root.{Root}
 use Rattle.macro_query.specs.Roots.{root_lines}
-use Rattle.macro_query.proofs.DumpLemmas.{Reaches, reaches_first, reaches_more, dump_stops, dump_ends, none_left}
+use Rattle.macro_query.proofs.DumpLemmas.{Reaches, reaches_first, reaches_more, dump_stops, dump_ends}
 use Rattle.macro_query.proofs.dump_report.dump_roots.Goals as goal
 
 pub loop-root-init : goal.loop-root-init
@@ -29,5 +30,5 @@ returns-in_err-add_root c =
 pub returns : goal.returns
 returns c =
     let before = c.loop-root.invariant in
-    let reaches = subst (λ (roots : List Root). Reaches (bytes_of c.args.s.now) c.args.roots.now before.0 c.loop-root.number roots) (none_left c.loop-root.left.now c.in_default.ensures.cases) before.3 in
+    let reaches = subst (λ (roots : List Root). Reaches (bytes_of c.args.s.now) c.args.roots.now before.0 c.loop-root.number roots) (nil_from_length c.loop-root.left.now c.in_default.ensures.cases) before.3 in
     dump_ends (bytes_of c.args.s.now) c.args.roots.now before.0 c.loop-root.number c.finished.result reaches (c.finished.ensures before.0 before.1)

@@ -1,8 +1,8 @@
 use Rattle.std.proofs.Common.{◌∷◌, List, refl, subst, sym, ◌∙◌, inr}
+use Rattle.std.proofs.lemmas.List.{nil_from_length}
 use Rattle.info_roots.specs.declared.root.Root.{Root}
 use Rattle.mac_base.specs.SectionBytes.{bytes_of}
 use Rattle.macro_query.specs.Scopes.{NamedLeads}
-use Rattle.macro_query.proofs.DumpLemmas.{none_left}
 use Rattle.macro_query.proofs.PositionLemmas.{Fails, Passes, err_by, named_found, named_next, named_fails, named_missing}
 use Rattle.macro_query.proofs.position.find_named.Goals as goal
 use Rattle.macro_query.proofs.position.find_named.Goals.{In-Some}
@@ -30,4 +30,4 @@ pub returns-clause-err : goal.returns-clause-err
 returns-clause-err c =
     let s = bytes_of c.args.s.now in
     inr (named_missing s c.args.path.now c.args.line c.args.roots.now
-    (subst (λ (left : List Root). Passes s c.args.path.now c.args.line c.args.roots.now left) (none_left c.loop-root.left.now c.in_default.ensures.cases) c.loop-root.invariant))
+    (subst (λ (left : List Root). Passes s c.args.path.now c.args.line c.args.roots.now left) (nil_from_length c.loop-root.left.now c.in_default.ensures.cases) c.loop-root.invariant))

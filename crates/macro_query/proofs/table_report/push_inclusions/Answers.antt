@@ -1,7 +1,7 @@
 use Rattle.std.proofs.Common.{◌++◌, List, ℕ, ap, sym, ◌∙◌, map}
+use Rattle.std.proofs.lemmas.List.{nil_from_length}
 use Rattle.mac_base.specs.declared.frames.Frame.{Frame}
 use Rattle.macro_query.specs.Tables.{inclusions, included_at, named_frame}
-use Rattle.macro_query.proofs.DumpLemmas.{none_left}
 use Rattle.macro_query.proofs.TableLemmas.{inclusions_next, inclusions_done}
 use Rattle.macro_query.proofs.table_report.push_inclusions.Goals as goal
 
@@ -14,4 +14,4 @@ loop-around-preserved c =
     (c.in_ok-push_inclusion.ensures ∙ ap (λ (path : List ℕ). c.loop-around.text.items ++ included_at (path, 0) (named_frame c.args.graph.now.paths c.loop-around.file.now)) c.path_of.ensures) c.loop-around.invariant
 
 pub returns : goal.returns
-returns c = inclusions_done c.args.graph.now.paths c.loop-around.text.items _ c.loop-around.outer.now c.loop-around.file.now (none_left c.loop-around.outer.now c.in_default-split_last.ensures.cases) c.loop-around.invariant
+returns c = inclusions_done c.args.graph.now.paths c.loop-around.text.items _ c.loop-around.outer.now c.loop-around.file.now (nil_from_length c.loop-around.outer.now c.in_default-split_last.ensures.cases) c.loop-around.invariant
