@@ -1,0 +1,4 @@
+pub mod Names
+pub mod Split
+pub mod Growing
+pub mod Laws
