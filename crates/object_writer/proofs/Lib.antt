@@ -1,0 +1,10 @@
+pub mod NameLemmas
+pub mod PieceLemmas
+pub mod StringLemmas
+pub mod UnitLemmas
+pub mod InfoLemmas
+pub mod ObjectLemmas
+pub mod FaultLemmas
+pub mod LineLemmas
+pub mod TableLemmas
+pub mod LinkedLemmas

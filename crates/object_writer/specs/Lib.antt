@@ -1,0 +1,9 @@
+pub mod Gabi
+pub mod Elf
+pub mod Relocations
+pub mod Layouts
+pub mod Strings
+pub mod Units
+pub mod Growing
+pub mod Object
+pub mod Linked
