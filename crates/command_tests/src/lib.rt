@@ -10,9 +10,13 @@ mod expansion;
 #[cfg(test)]
 mod folders;
 #[cfg(test)]
+mod objects;
+#[cfg(test)]
 mod outside;
 #[cfg(test)]
 mod raw;
+#[cfg(test)]
+mod recording;
 #[cfg(test)]
 mod stage;
 #[cfg(test)]

@@ -163,7 +163,7 @@ fn other_words_are_misuse(rt: HostRuntime) -> Result<(), Fail> {
 #[test]
 fn help_and_version_are_printed(rt: HostRuntime) -> Result<(), Fail> {
     let help =
-        b"usage: dwmac raw FILE\n       dwmac unit FILE OFF\n       dwmac dump FILE\n       dwmac info FILE POS NAME\n       dwmac list FILE POS\n       dwmac expand FILE POS TEXT\n       dwmac once FILE POS TEXT\n       dwmac events [-I DIR].. [-D DEF].. [-U NAME].. SRC\n       dwmac --help\n       dwmac --version\nThe words of -I, -D and -U stand apart: -D X=1\n";
+        b"usage: dwmac raw FILE\n       dwmac unit FILE OFF\n       dwmac dump FILE\n       dwmac info FILE POS NAME\n       dwmac list FILE POS\n       dwmac expand FILE POS TEXT\n       dwmac once FILE POS TEXT\n       dwmac events [-I DIR].. [-D DEF].. [-U NAME].. SRC\n       dwmac record [-I DIR].. [-D DEF].. [-U NAME].. [--strx] [--dwarf64] -o FILE SRC\n       dwmac --help\n       dwmac --version\nThe words of -I, -D, -U and -o stand apart: -D X=1\n";
     check(&rt, rt.alloc(), &prints(&[b"--help"], b"t", b"", help))?;
     check(
         &rt,

@@ -1,5 +1,5 @@
 -- What a run has to say, by its words and the files alone.
-use Rattle.std.specs.Prelude.{◌≡◌, ℕ, nat_lt, List, length, Option, Some, None, Result, Ok, Err}
+use Rattle.std.specs.Prelude.{◌≡◌, ℕ, nat_lt, List, [], length, Option, Some, None, Result, Ok, Err}
 use Rattle.std.specs.Bool.{MatchBool}
 use Rattle.mac_io.specs.Files.{Files, IsFileAt}
 use Rattle.macro_query.specs.declared.fault.QueryFault.{QueryFault}
@@ -8,12 +8,13 @@ use Rattle.macro_query.specs.Queries.{RawSays, UnitAtSays, DumpSays, InfoSays, L
 use Rattle.pp_unit.specs.Files.{Stores}
 use Rattle.dwmac_run.specs.declared.refusal.Refusal.TheVariants.{NoSuchFile, FileTooLong, Query as BadQuery}
 use Rattle.dwmac_run.specs.declared.request.Request.{Request}
-use Rattle.dwmac_run.specs.declared.request.Request.TheVariants.{Query as Asks, Events, Help, Version}
+use Rattle.dwmac_run.specs.declared.request.Request.TheVariants.{Query as Asks, Events, Record, Help, Version}
 use Rattle.dwmac_run.specs.declared.request.Query.{Query}
 use Rattle.dwmac_run.specs.declared.request.Query.TheVariants.{Raw, Unit as UnitAt, Dump, Info, List as ListAt, Expand, Once}
 use Rattle.dwmac_run.specs.Command.{request_of}
 use Rattle.dwmac_run.specs.Answers.{Answer, Prints, Refuses, Misuse}
 use Rattle.dwmac_run.specs.Units.{UnitAnswer, AllTold}
+use Rattle.dwmac_run.specs.Record.{RecordAnswer}
 use Rattle.dwmac_run.specs.Help.{help_text, version_text}
 use Rattle.dwmac_run.specs.Refusals.{refusal_line}
 
@@ -33,7 +34,7 @@ QuerySays (Once position text) bytes said = OnceSays position text bytes said
 
 -- What is said to a query about this file is a report, or a fault that is told by a line.
 abbrev pub answer_by : List ℕ → Result (List ℕ) QueryFault → Answer
-answer_by file (Ok text) = Prints text
+answer_by file (Ok text) = Prints [] text
 answer_by file (Err fault) = Refuses (refusal_line (BadQuery file fault))
 
 -- the answer to a query about this file, to which this is to be said
@@ -54,8 +55,9 @@ abbrev pub AnswerTo : Option Request → Option Files → Stores → Answer → 
 AnswerTo None told stores answer = answer ≡ Misuse
 AnswerTo (Some (Asks file query)) told stores answer = AboutFile told file (QuerySays query) answer
 AnswerTo (Some (Events unit folders)) told stores answer = UnitAnswer stores unit answer
-AnswerTo (Some Help) told stores answer = answer ≡ Prints help_text
-AnswerTo (Some Version) told stores answer = answer ≡ Prints version_text
+AnswerTo (Some (Record unit folders forms output)) told stores answer = RecordAnswer stores unit forms output answer
+AnswerTo (Some Help) told stores answer = answer ≡ Prints [] help_text
+AnswerTo (Some Version) told stores answer = answer ≡ Prints [] version_text
 
 -- The answer to the words over the files that the shelf tells, and the stores of the path. Where one doesn't tell its files, it is the answer over some content.
 abbrev pub IsAnswer : List (List ℕ) → Option Files → Stores → Answer → Type 0
@@ -66,6 +68,7 @@ abbrev pub ReadsTold : Option Request → Option Files → Stores → Type 0
 ReadsTold None told stores = Unit {0}
 ReadsTold (Some (Asks file query)) told stores = (files : Files) × (told ≡ Some files)
 ReadsTold (Some (Events unit folders)) told stores = AllTold stores
+ReadsTold (Some (Record unit folders forms output)) told stores = AllTold stores
 ReadsTold (Some Help) told stores = Unit {0}
 ReadsTold (Some Version) told stores = Unit {0}
 

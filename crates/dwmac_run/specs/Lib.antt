@@ -11,7 +11,9 @@ pub mod Pieces
 pub mod Refusals
 pub mod Statuses
 pub mod Answers
+pub mod Storing
 pub mod Units
+pub mod Record
 pub mod Answer
 pub mod Leaves
 pub mod Outcome

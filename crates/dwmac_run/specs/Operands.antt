@@ -23,11 +23,12 @@ chain_of (Some (Named path line)) = None
 abbrev pub with_file : Operands → List ℕ → Option Operands
 with_file read word = if is_file_word word then Some (record read { file = Some word }) else None
 
--- with this offset, or this position, if there is one
+-- with this offset, if there is one
 abbrev pub at_offset : Operands → Option ℕ → Option Operands
 at_offset read None = None
 at_offset read (Some offset) = Some (record read { offset = Some offset })
 
+-- with this position, if there is one
 abbrev pub at_position : Operands → Option Place → Option Operands
 at_position read None = None
 at_position read (Some position) = Some (record read { position = Some position })

@@ -14,10 +14,11 @@ spaced piece = codes " " ++ piece
 abbrev pub line_text : List (List ℕ) → List ℕ
 line_text pieces = codes "dwmac:" ++ (flat_map spaced pieces ++ codes "\n")
 
--- where a fault is: a file, or a line of a file
+-- where a fault is: in this file
 abbrev pub in_file : List ℕ → List ℕ
 in_file path = path ++ codes ":"
 
+-- where a fault is: in this line of a file
 abbrev pub at_line : List ℕ → ℕ → List ℕ
 at_line path line = (path ++ codes ":") ++ (decimal line ++ codes ":")
 
@@ -31,6 +32,7 @@ pieces (Hex number ∷ others) = hex number ∷ pieces others
 pieces (File path ∷ others) = in_file path.now ∷ pieces others
 pieces (Line path line ∷ others) = at_line path.now line ∷ pieces others
 
+-- those of a line as the code keeps it
 abbrev pub line_pieces : FaultLine → List (List ℕ)
 line_pieces line = pieces (line.place ∷ line.words)
 

@@ -14,7 +14,7 @@ use Rattle.pp_unit.specs.declared.fault.PpKind.{PpKind}
 use Rattle.pp_unit.specs.declared.fault.PpKind.TheVariants.{Lex, Def, Predefined, Redefined, Directive, Expr, Expand, Struct, NoSuchFile as NoSuchHeader, BadInclude, IncludeDepth, ErrorDirective, BadLine, SourceTooLong, TooManyEvents, TooMuchText, StoreFault, NoMemory as PpNoMemory}
 use Rattle.pp_unit.specs.declared.fault.PpFault.{PpFault}
 use Rattle.dwmac_run.specs.declared.refusal.Refusal.{Refusal}
-use Rattle.dwmac_run.specs.declared.refusal.Refusal.TheVariants.{NoSuchFile, FileTooLong, Query, TranslationUnit, ReportTooLong}
+use Rattle.dwmac_run.specs.declared.refusal.Refusal.TheVariants.{NoSuchFile, FileTooLong, Query, TranslationUnit, ReportTooLong, TooLarge}
 use Rattle.dwmac_run.specs.FaultNames.{unit_name, info_name, line_name, lex_name, def_name, directive_name, expr_name, struct_name}
 use Rattle.dwmac_run.specs.Pieces.{line_text, in_file, at_line}
 
@@ -105,6 +105,7 @@ refusal_pieces (FileTooLong file) = in_file file ∷ codes "FileTooLong" ∷ []
 refusal_pieces (Query file fault) = query_pieces file fault
 refusal_pieces (TranslationUnit fault) = unit_pieces fault
 refusal_pieces ReportTooLong = codes "ReportTooLong" ∷ []
+refusal_pieces TooLarge = codes "TooLarge" ∷ []
 
 -- the line on a fault
 abbrev pub refusal_line : Refusal → List ℕ

@@ -23,6 +23,8 @@ pub enum Verb {
     Once,
     /// The events of a translation unit.
     Events,
+    /// The object of a translation unit, which is written to a file.
+    Record,
     /// How the program is called.
     Help,
     /// Which program it is.
@@ -30,7 +32,7 @@ pub enum Verb {
 }
 
 /// The commands in the order in which `--help` prints them.
-pub const VERBS: [Verb; 10] = [
+pub const VERBS: [Verb; 11] = [
     Verb::Raw,
     Verb::Unit,
     Verb::Dump,
@@ -39,6 +41,7 @@ pub const VERBS: [Verb; 10] = [
     Verb::Expand,
     Verb::Once,
     Verb::Events,
+    Verb::Record,
     Verb::Help,
     Verb::Version,
 ];
@@ -60,7 +63,7 @@ pub enum Operand {
     Source,
 }
 
-/// An option of a command. Each takes the next word.
+/// An option of a command.
 #[derive(Clone, Copy, Debug, PartialEq, Eq)]
 pub enum CommandOption {
     /// `-I`: a folder for headers.
@@ -69,6 +72,46 @@ pub enum CommandOption {
     Define,
     /// `-U`: a name that is no macro before the primary source file.
     Undef,
+    /// `--strx`: strings are referred to by their indexes.
+    Strx,
+    /// `--dwarf64`: offsets have eight bytes.
+    Wide,
+    /// `-o`: the file that is written.
+    Output,
+}
+
+/// How often an option of a command is given.
+#[derive(Clone, Copy, Debug, PartialEq, Eq)]
+pub enum Often {
+    /// Any number of times.
+    Any,
+    /// At most once.
+    AtMostOnce,
+    /// Exactly once.
+    ExactlyOnce,
+}
+
+impl Often {
+    ghost use Rattle.dwmac_run.specs.Commands.{may_repeat};
+
+    /// Whether an option may be given again.
+    pub fn may_repeat(self) -> bool
+        ensures { result ≡ may_repeat self }
+    {
+        match self {
+            Often::Any => true,
+            Often::AtMostOnce => false,
+            Often::ExactlyOnce => false,
+        }
+    }
+}
+
+/// An option as a word, what `--help` calls the next word, where it takes that, and how often it is given.
+#[derive(Clone, Copy)]
+pub struct OptionRow {
+    pub word: &'static [u8],
+    pub argument: Option<&'static [u8]>,
+    pub often: Often,
 }
 
 /// What may follow the verb of a command: options in any place, and the operands in order.
@@ -86,7 +129,7 @@ impl Verb {
     pub fn row(self) -> CommandRow
         ensures { row_seen result ≡ row_of self }
     {
-        use CommandOption::{Define, Folder, Undef};
+        use CommandOption::{Define, Folder, Output, Strx, Undef, Wide};
         use Operand::{File, Name, Offset, Position, Source, Text};
         let (word, options, operands): (&[u8], &[CommandOption], &[Operand]) = match self {
             Verb::Raw => (b"raw", &[], &[File]),
@@ -97,6 +140,11 @@ impl Verb {
             Verb::Expand => (b"expand", &[], &[File, Position, Text]),
             Verb::Once => (b"once", &[], &[File, Position, Text]),
             Verb::Events => (b"events", &[Folder, Define, Undef], &[Source]),
+            Verb::Record => (
+                b"record",
+                &[Folder, Define, Undef, Strx, Wide, Output],
+                &[Source],
+            ),
             Verb::Help => (b"--help", &[], &[]),
             Verb::Version => (b"--version", &[], &[]),
         };
@@ -109,27 +157,25 @@ impl Verb {
 }
 
 impl CommandOption {
-    ghost use Rattle.dwmac_run.specs.Commands.{option_word, option_help};
+    ghost use Rattle.dwmac_run.specs.Commands.{option_form, option_form_seen};
 
-    /// The option as a word.
-    pub fn word(self) -> &'static [u8]
-        ensures { result.now ≡ option_word self }
+    /// The row of the option in the list of options.
+    pub fn row(self) -> OptionRow
+        ensures { option_form_seen result ≡ option_form self }
     {
-        match self {
-            CommandOption::Folder => b"-I",
-            CommandOption::Define => b"-D",
-            CommandOption::Undef => b"-U",
-        }
-    }
-
-    /// What `--help` prints for it.
-    pub fn help(self) -> &'static [u8]
-        ensures { result.now ≡ option_help self }
-    {
-        match self {
-            CommandOption::Folder => b" [-I DIR]..",
-            CommandOption::Define => b" [-D DEF]..",
-            CommandOption::Undef => b" [-U NAME]..",
+        use Often::{Any, AtMostOnce, ExactlyOnce};
+        let (word, argument, often): (&[u8], Option<&[u8]>, Often) = match self {
+            CommandOption::Folder => (b"-I", Some(b"DIR"), Any),
+            CommandOption::Define => (b"-D", Some(b"DEF"), Any),
+            CommandOption::Undef => (b"-U", Some(b"NAME"), Any),
+            CommandOption::Strx => (b"--strx", None, AtMostOnce),
+            CommandOption::Wide => (b"--dwarf64", None, AtMostOnce),
+            CommandOption::Output => (b"-o", Some(b"FILE"), ExactlyOnce),
+        };
+        OptionRow {
+            word,
+            argument,
+            often,
         }
     }
 }
@@ -176,7 +222,7 @@ pub fn option_of(options: &[CommandOption], word: &[u8]) -> Option<CommandOption
     ensures { result ≡ spec.option_of options.now word.now }
 {
     for option in options {
-        if word == option.word() {
+        if word == option.row().word {
             return Some(*option);
         }
     }

@@ -10,6 +10,7 @@ use pp_tokens::LexFault;
 use pp_unit::DirectiveFault;
 use unit_header::UnitKind;
 
+/// The name of a kind of fault of a macro unit.
 pub fn unit_name<'n>(kind: UnitKind) -> &'n [u8]
     ensures { result.now ≡ spec.unit_name kind }
 {
@@ -37,6 +38,7 @@ pub fn unit_name<'n>(kind: UnitKind) -> &'n [u8]
     }
 }
 
+/// The name of a kind of fault of `.debug_info`.
 pub fn info_name<'n>(kind: InfoKind) -> &'n [u8]
     ensures { result.now ≡ spec.info_name kind }
 {
@@ -57,6 +59,7 @@ pub fn info_name<'n>(kind: InfoKind) -> &'n [u8]
     }
 }
 
+/// The name of a kind of fault of a line table.
 pub fn line_name<'n>(kind: LineKind) -> &'n [u8]
     ensures { result.now ≡ spec.line_name kind }
 {
@@ -75,6 +78,7 @@ pub fn line_name<'n>(kind: LineKind) -> &'n [u8]
     }
 }
 
+/// The name of a fault of tokens.
 pub fn lex_name<'n>(fault: LexFault) -> &'n [u8]
     ensures { result.now ≡ spec.lex_name fault }
 {
@@ -85,6 +89,7 @@ pub fn lex_name<'n>(fault: LexFault) -> &'n [u8]
     }
 }
 
+/// The name of a fault of a definition.
 pub fn def_name<'n>(fault: DefFault) -> &'n [u8]
     ensures { result.now ≡ spec.def_name fault }
 {
@@ -101,6 +106,7 @@ pub fn def_name<'n>(fault: DefFault) -> &'n [u8]
     }
 }
 
+/// The name of a fault of a directive.
 pub fn directive_name<'n>(fault: DirectiveFault) -> &'n [u8]
     ensures { result.now ≡ spec.directive_name fault }
 {
@@ -110,6 +116,7 @@ pub fn directive_name<'n>(fault: DirectiveFault) -> &'n [u8]
     }
 }
 
+/// The name of a fault of a condition.
 pub fn expr_name<'n>(fault: ExprFault) -> &'n [u8]
     ensures { result.now ≡ spec.expr_name fault }
 {
@@ -125,6 +132,7 @@ pub fn expr_name<'n>(fault: ExprFault) -> &'n [u8]
     }
 }
 
+/// The name of a fault of the structure of groups.
 pub fn struct_name<'n>(fault: StructFault) -> &'n [u8]
     ensures { result.now ≡ spec.struct_name fault }
 {

@@ -1,9 +1,9 @@
 ghost use Rattle.std.specs.Prelude.{◌≡◌, ◌++◌, IfOk, OnOk};
 ghost use Rattle.std.specs.List.{flat_map};
 ghost use Rattle.dwmac_run.specs.Help as spec;
-ghost use Rattle.dwmac_run.specs.Commands.{row_seen, option_help, operand_help};
+ghost use Rattle.dwmac_run.specs.Commands.{row_seen, option_form_seen, operand_help};
 
-use crate::commands::{CommandOption, CommandRow, Operand, VERBS, Verb};
+use crate::commands::{CommandOption, CommandRow, Often, Operand, OptionRow, VERBS, Verb};
 use mac_base::{Bytes, NoMemory};
 use std::alloc::Global;
 
@@ -13,7 +13,7 @@ pub fn help_text(alloc: Global) -> Result<Bytes, NoMemory>
 {
     let mut text = Vec::new(alloc);
     push_lines(&mut text, &VERBS)?;
-    text.extend_from_slice(b"The words of -I, -D and -U stand apart: -D X=1\n")?;
+    text.extend_from_slice(b"The words of -I, -D, -U and -o stand apart: -D X=1\n")?;
     Ok(Bytes::from_vec(text))
 }
 
@@ -50,12 +50,48 @@ fn push_line(text: &mut Vec<u8>, row: CommandRow) -> Result<(), NoMemory>
 }
 
 fn push_options(text: &mut Vec<u8>, options: &[CommandOption]) -> Result<(), NoMemory>
-    ensures { OnOk result (text.new.items ≡ text.old.items ++ flat_map option_help options.now) }
+    ensures { OnOk result (text.new.items ≡ text.old.items ++ flat_map spec.option_help options.now) }
 {
     for option in options {
-        text.extend_from_slice(option.help())?;
+        push_option(text, option.row())?;
     }
     Ok(())
+}
+
+/// Appends an option.
+fn push_option(text: &mut Vec<u8>, row: OptionRow) -> Result<(), NoMemory>
+    ensures { OnOk result (text.new.items ≡ text.old.items ++ spec.form_help (option_form_seen row)) }
+{
+    text.extend_from_slice(before_option(row.often))?;
+    text.extend_from_slice(row.word)?;
+    if let Some(name) = row.argument {
+        text.push(b' ')?;
+        text.extend_from_slice(name)?;
+    }
+    text.extend_from_slice(after_option(row.often))?;
+    Ok(())
+}
+
+/// What precedes an option that is given so often.
+fn before_option(often: Often) -> &'static [u8]
+    ensures { result.now ≡ spec.before_option often }
+{
+    match often {
+        Often::Any => b" [",
+        Often::AtMostOnce => b" [",
+        Often::ExactlyOnce => b" ",
+    }
+}
+
+/// What follows it.
+fn after_option(often: Often) -> &'static [u8]
+    ensures { result.now ≡ spec.after_option often }
+{
+    match often {
+        Often::Any => b"]..",
+        Often::AtMostOnce => b"]",
+        Often::ExactlyOnce => b"",
+    }
 }
 
 fn push_operands(text: &mut Vec<u8>, operands: &[Operand]) -> Result<(), NoMemory>

@@ -12,6 +12,7 @@ mod operands;
 mod outcome;
 mod perform;
 mod printing;
+mod recording;
 mod refusal;
 mod request;
 mod roots;

@@ -8,6 +8,7 @@ ghost use Rattle.dwmac_run.specs.Outcome.{answer_of, text_answer, query_answer, 
 
 use crate::help::{help_text, version_text};
 use crate::outcome::Outcome;
+use crate::recording::record_unit;
 use crate::refusal::Refusal;
 use crate::request::{Query, Request, request_of};
 use crate::units::events;
@@ -53,6 +54,12 @@ fn execute<P: Headers, S: Shelf>(
     match request {
         Request::Query { file, query } => ask_file(alloc, file, &query, shelf),
         Request::Events { unit, .. } => events(alloc, path, &unit),
+        Request::Record {
+            unit,
+            forms,
+            output,
+            ..
+        } => record_unit(alloc, path, &unit, forms, output),
         Request::Help => report_of(help_text(alloc)),
         Request::Version => report_of(version_text(alloc)),
     }

@@ -27,6 +27,8 @@ pub enum Refusal {
     TranslationUnit(PpFault),
     /// The report has more bytes than are printed.
     ReportTooLong,
+    /// A section of an object has more bytes than are written.
+    TooLarge,
 }
 
 impl Refusal {
@@ -43,6 +45,7 @@ impl Refusal {
             Refusal::Query(file, fault) => query_line(file.as_slice(), fault),
             Refusal::TranslationUnit(fault) => unit_line(fault),
             Refusal::ReportTooLong => of_text(b"ReportTooLong"),
+            Refusal::TooLarge => of_text(b"TooLarge"),
         }
     }
 }

@@ -6,8 +6,9 @@ use crate::commands::{Verb, verb_of};
 use crate::operands::{Operands, read_operands};
 use crate::words::{SplitWords, split_words};
 use mac_base::{Bytes, NoMemory, Paths};
+use object_writer::Forms;
 use position_table::Position;
-use pp_unit::{Commands, UnitSpec};
+use pp_unit::UnitSpec;
 use std::alloc::Global;
 
 /// The most folders for headers.
@@ -27,6 +28,15 @@ pub enum Request {
         unit: UnitSpec,
         /// The folders for headers.
         folders: Paths,
+    },
+    /// The object of a translation unit.
+    Record {
+        unit: UnitSpec,
+        /// The folders for headers.
+        folders: Paths,
+        forms: Forms,
+        /// The name of the file that is written.
+        output: Bytes,
     },
     /// How the program is called.
     Help,
@@ -82,7 +92,7 @@ fn request_for(alloc: Global, verb: Verb, words: &[Bytes]) -> Result<Option<Requ
 
 /// What a command with these words and operands asks for.
 fn request_by(verb: Verb, split: SplitWords, read: Option<Operands>) -> Option<Request>
-    ensures { result ≡ spec.request_by verb split.folders split.macros read }
+    ensures { result ≡ spec.request_by verb split read }
 {
     let Operands {
         file,
@@ -98,7 +108,8 @@ fn request_by(verb: Verb, split: SplitWords, read: Option<Operands>) -> Option<R
         Verb::List => about(file, list_at(position)),
         Verb::Expand => about(file, expand_at(position, text)),
         Verb::Once => about(file, once_at(position, text)),
-        Verb::Events => events_of(file, split.macros, split.folders),
+        Verb::Events => events_of(file, split),
+        Verb::Record => record_of(file, split),
         Verb::Help => Some(Request::Help),
         Verb::Version => Some(Request::Version),
     }
@@ -143,12 +154,40 @@ fn once_at(position: Option<Position>, text: Option<Bytes>) -> Option<Query>
     Some(Query::Once(position?, text?))
 }
 
-fn events_of(source: Option<Bytes>, macros: Commands, folders: Paths) -> Option<Request>
-    ensures { result ≡ spec.events_of source macros folders }
+fn events_of(source: Option<Bytes>, split: SplitWords) -> Option<Request>
+    ensures { result ≡ spec.events_of source split }
 {
+    let SplitWords {
+        folders,
+        macros,
+        ..
+    } = split;
     let unit = UnitSpec {
         source: source?,
         commands: macros,
     };
     Some(Request::Events { unit, folders })
+}
+
+fn record_of(source: Option<Bytes>, split: SplitWords) -> Option<Request>
+    ensures { result ≡ spec.record_of source split.output split }
+{
+    let SplitWords {
+        folders,
+        macros,
+        output,
+        strx,
+        wide,
+        ..
+    } = split;
+    let unit = UnitSpec {
+        source: source?,
+        commands: macros,
+    };
+    Some(Request::Record {
+        unit,
+        folders,
+        forms: Forms { strx, wide },
+        output: output?,
+    })
 }

@@ -24,7 +24,7 @@ pub enum RootsFault {
     #[error("usage")]
     Usage,
     /// Memory ran out.
-    #[error("out of memory")]
+    #[error("no memory")]
     NoMemory,
 }
 
@@ -67,7 +67,8 @@ pub fn add_store(
     store: Box<dyn HeaderStore>,
 ) -> Result<(), NoMemory>
     requires { length (labels (⟦<SearchPath as Headers>⟧.stores path.old)) < 256 }
-    ensures { OnOk result (labels (⟦<SearchPath as Headers>⟧.stores path.new) ≡ labels (⟦<SearchPath as Headers>⟧.stores path.old) ++ label.now ∷ []) }
+    ensures labels { OnOk result (labels (⟦<SearchPath as Headers>⟧.stores path.new) ≡ labels (⟦<SearchPath as Headers>⟧.stores path.old) ++ label.now ∷ []) }
+    ensures folders { OnOk result (⟦<SearchPath as Headers>⟧.folders path.new ≡ ⟦<SearchPath as Headers>⟧.folders path.old ++ folder store ∷ []) }
 {
     match path.push(label.copy()?, store) {
         Ok(()) => Ok(()),
@@ -90,6 +91,7 @@ fn folders_of(alloc: Global, request: Request) -> Paths
 {
     match request {
         Request::Events { folders, .. } => folders,
+        Request::Record { folders, .. } => folders,
         Request::Query { .. } => Paths::new(alloc),
         Request::Help => Paths::new(alloc),
         Request::Version => Paths::new(alloc),

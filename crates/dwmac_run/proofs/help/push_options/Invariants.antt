@@ -1,6 +1,6 @@
 use Rattle.std.proofs.Common.{◌≡◌, ◌++◌, take}
 use Rattle.std.specs.List.{flat_map}
-use Rattle.dwmac_run.specs.Commands.{option_help}
+use Rattle.dwmac_run.specs.Help.{option_help}
 use Rattle.dwmac_run.proofs.help.push_options.Given as goal
 
 abbrev pub invariant-loop-option : goal.invariant-loop-option
