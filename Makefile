@@ -31,4 +31,4 @@ bench: build
 
 # Compares with tools of this machine, where they are there.
 peers: build
-	@scripts/peers && scripts/events
+	@scripts/peers && scripts/events && scripts/records

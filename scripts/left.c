@@ -1,0 +1,2 @@
+#include "point.h"
+#define SIDE X

@@ -1,0 +1,2 @@
+#define X 0
+#define Y 1
