@@ -5,7 +5,7 @@ use Rattle.dwmac.proofs.command_line.Goals as goal
 pub loop-label-preserved : goal.loop-label-preserved
 loop-label-preserved c =
     store_more (λ s. s.label) _ c.loop-label.path.stores.items _ c.as_slice-label-items.result.now _ c.loop-label.label-index c.loop-label-test.true c.label-item.is
-    c.loop-label.invariant c.in-Ok-add_store.labels
+    c.loop-label.invariant c.in-Ok-add_store.ensures.labels
 
 pub run_words-requires : goal.run_words-requires
 run_words-requires c =

@@ -5,7 +5,7 @@ use Rattle.command_tests.proofs.folders.run_over.Goals as goal
 pub loop-label-preserved : goal.loop-label-preserved
 loop-label-preserved c =
     store_more (λ s. s.label) _ c.loop-label.path.stores.items _ c.as_slice-label-items.result.now _ c.loop-label.label-index c.loop-label-test.true c.label-item.is
-    c.loop-label.invariant c.in-Ok.ensures
+    c.loop-label.invariant c.in-Ok.ensures.labels
 
 pub run-requires : goal.run-requires
 run-requires c =
