@@ -1,6 +1,7 @@
 mod CutLemmas
 mod EventLemmas
 mod GrowingLemmas
+mod LongestLemmas
 mod LoopLemmas
 mod PieceLemmas
 mod PlaceLemmas

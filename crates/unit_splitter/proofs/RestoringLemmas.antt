@@ -11,13 +11,9 @@ use Rattle.unit_splitter.specs.declared.root.RootEntry.TheVariants.{Own, Import}
 use Rattle.unit_splitter.specs.declared.pieces.Piece.{Piece}
 use Rattle.unit_splitter.specs.Split.{same_part, is_change, is_included, depth_after, is_run, before_parts, parts_from, parts_of, pieces_of, number_in, entries_as, split_of}
 use Rattle.unit_splitter.specs.Growing.{passes}
-use Rattle.unit_splitter.specs.Laws.{entries_of, events_of, GivesEventsBack}
+use Rattle.unit_splitter.specs.Laws.{entries_of, events_of, together, GivesEventsBack}
 use Rattle.unit_splitter.proofs.EventLemmas.{part_is}
 use Rattle.unit_splitter.proofs.PlaceLemmas.{position_cons}
-
--- parts, one after another
-abbrev together : List (List Event) → List Event
-together parts = flat_map (λ (part : List Event). part) parts
 
 before_by : (joins : Bool) (event first : Event) (more : List Event) (parts : List (List Event)) → together (cond joins ((event ∷ first ∷ more) ∷ parts) ((event ∷ []) ∷ (first ∷ more) ∷ parts)) ≡ event ∷ together ((first ∷ more) ∷ parts)
 before_by true event first more parts = refl
@@ -28,7 +24,8 @@ before_whole joins event [] = refl
 before_whole joins event ([] ∷ parts) = refl
 before_whole joins event ((first ∷ more) ∷ parts) = before_by (joins && is_change first) event first more parts
 
-whole : (events : List Event) (depth : ℕ) → together (parts_from depth events) ≡ events
+-- all parts are the events
+pub whole : (events : List Event) (depth : ℕ) → together (parts_from depth events) ≡ events
 unfolding parts_from
 whole [] depth = refl
 whole (event ∷ events) depth =

@@ -1,11 +1,12 @@
--- What holds of every split: it gives the events back, its pieces are different runs, and imports name them.
-use Rattle.std.specs.Prelude.{◌≡◌, ℕ, ◌<◌, ◌≤◌, Bool, true, List, [], ◌∷◌, length, slice_get, Option, None, Some}
+-- What holds of every split: it gives the events back, its pieces are different runs, which are as long as can be, and imports name them.
+use Rattle.std.specs.Prelude.{◌≡◌, ℕ, ◌<◌, ◌≤◌, Bool, true, ◌&&◌, List, [], ◌∷◌, ◌++◌, length, slice_get, Option, None, Some}
+use Rattle.std.specs.Bool.{MatchBool}
 use Rattle.std.specs.List.{flat_map, AllByRecursion, IsDistinct}
 use Rattle.mac_base.specs.declared.events.Event.{Event}
 use Rattle.unit_splitter.specs.declared.root.RootEntry.{RootEntry}
 use Rattle.unit_splitter.specs.declared.root.RootEntry.TheVariants.{Own, Import}
 use Rattle.unit_splitter.specs.declared.pieces.Piece.{Piece}
-use Rattle.unit_splitter.specs.Split.{split_of, is_change, same_part, piece_limit}
+use Rattle.unit_splitter.specs.Split.{split_of, is_change, is_included, depth_after_all, parts_of, same_part, piece_limit}
 
 -- the entries of a piece, which are none where there is no such piece
 abbrev pub entries_of : Option Piece → List Event
@@ -41,3 +42,38 @@ pub record IsWellMade (events : List Event) : Type 0 where
 -- so is every split
 abbrev pub SplitsAreWellMade : Type 0
 SplitsAreWellMade = (events : List Event) → IsWellMade events
+
+-- parts, one after another
+abbrev pub together : List (List Event) → List Event
+together parts = flat_map (λ (part : List Event). part) parts
+
+-- the stated events before and after two neighbours, by the part of the first: the parts before that, what it has before the neighbour, and the parts after that of the second, with what that has after it
+pub record HasRound (front back : List Event) (before : List (List Event)) (left right : List Event) (after : List (List Event)) : Type 0 where
+  pub front_is : front ≡ together before ++ left
+  pub back_is : back ≡ right ++ together after
+
+-- two neighbours are in one part
+pub record AreInOnePart (front : List Event) (one other : Event) (back : List Event) (parts : List (List Event)) : Type 0 where
+  pub before : List (List Event)
+  pub left : List Event
+  pub right : List Event
+  pub after : List (List Event)
+  pub round : HasRound front back before left right after
+  pub parts_are : parts ≡ before ++ (left ++ one ∷ other ∷ right) ∷ after
+
+-- a part ends between two neighbours
+pub record ArePartedBetween (front : List Event) (one other : Event) (back : List Event) (parts : List (List Event)) : Type 0 where
+  pub before : List (List Event)
+  pub left : List Event
+  pub right : List Event
+  pub after : List (List Event)
+  pub round : HasRound front back before left right after
+  pub parts_are : parts ≡ before ++ (left ++ one ∷ []) ∷ (other ∷ right) ∷ after
+
+-- whether two neighbours after these events are to be in one part: both are changes, inside an included file
+abbrev pub belong : List Event → Event → Event → Bool
+belong front one other = (is_included (depth_after_all front) && is_change one) && is_change other
+
+-- Parts, and so runs, are as long as can be: two neighbours are in one part exactly where both are changes inside an included file.
+abbrev pub PartsAreLongest : Type 0
+PartsAreLongest = (front back : List Event) (one other : Event) → MatchBool (belong front one other) (AreInOnePart front one other back (parts_of (front ++ one ∷ other ∷ back))) (ArePartedBetween front one other back (parts_of (front ++ one ∷ other ∷ back)))
